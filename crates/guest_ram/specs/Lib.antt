@@ -1,0 +1,5 @@
+pub mod Window
+pub mod Span
+pub mod Ram
+pub mod Lending
+pub mod Held

@@ -1,0 +1,13 @@
+use Rattle.std.specs.Prelude.{ℕ, List, [], drop}
+
+-- a lane's window: page 0 is the submission queue, page 1 the completion queue, and the data pages come after them
+pub record WindowState : Type 0 where
+  pub lane : ℕ
+  pub pages : List (List ℕ)
+
+abbrev pub data_pages : WindowState → List (List ℕ)
+data_pages w = drop 2 w.pages
+
+-- what a look-up past the last window gives
+abbrev pub no_window : WindowState
+no_window = record { lane = 0; pages = [] }

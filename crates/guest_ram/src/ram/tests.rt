@@ -1,0 +1,105 @@
+ghost use Rattle.std.specs.Prelude.{◌≡◌, ◌+◌, ◌<◌, ◌≤◌, ◌∷◌, [], length, slice_index_or, slice_set};
+ghost use Rattle.nvm_model.specs.Memory.{with_bytes};
+ghost use Rattle.guest_ram.specs.Window.{no_window};
+
+use super::*;
+use crate::{BadPrp, Host, Pages};
+use std::test::Fail;
+
+// What a caller that passes a window on gets: the windows with that one replaced by what it ended as.
+fn write_first(window: &mut Window)
+    requires { 2 < length window.old.pages }
+    ensures pages { window.new.pages ≡ with_bytes window.old.pages 2 0 (7 ∷ []) }
+    ensures lane { window.new.lane ≡ window.old.lane }
+{
+    window.write_guest(2, 0, &[7]);
+}
+
+fn write_in_host<M>(host: &mut Host<M>, i: usize)
+    requires there { i < length host.old.ram }
+    requires data { 2 < length (slice_index_or host.old.ram i no_window).pages }
+    ensures ram { let w = slice_index_or host.old.ram i no_window in
+        host.new.ram
+        ≡ slice_set host.old.ram i
+        (record { lane = w.lane; pages = with_bytes w.pages 2 0 (7 ∷ []) }) }
+    ensures shelves { host.new.shelves ≡ host.old.shelves }
+{
+    let windows = host.ram.windows();
+    write_first(&mut windows[i]);
+}
+
+// Entry i of the list page in data page 3 names data page p of lane 2, whose data begins at 33,562,624.
+fn write_entry(window: &mut Window, i: u16, p: u64)
+    requires there { 5 < length window.old.pages }
+    requires within { i < 512 }
+    requires page { p < 256 }
+    ensures { length window.new.pages ≡ length window.old.pages }
+{
+    window.write_guest(5, 8 * i, &(33_562_624 + 4096 * p).to_le_bytes());
+}
+
+// The list page names data pages 11 down to 5.
+fn write_list(window: &mut Window)
+    requires { 5 < length window.old.pages }
+    ensures { 5 < length window.new.pages }
+{
+    for i in 0..7u16 {
+        write_entry(window, i, 11 - u64::from(i));
+    }
+}
+
+#[test]
+fn makes_and_writes(rt: HostRuntime) -> Result<(), Fail> {
+    let ram = Ram::make(rt.alloc(), &[1, 12]).ok().ok_or("memory")?;
+    let mut host = Host {
+        shelves: Vec::<u8>::new(rt.alloc()),
+        ram,
+    };
+    write_in_host(&mut host, 0);
+    let ram = &host.ram;
+    let one = LaneNo::new(1).ok_or("lane 1")?;
+    let two = LaneNo::new(2).ok_or("lane 2")?;
+    assert_eq!(rt; ram.window(one).page(2)[0], 7);
+    assert_eq!(rt; ram.window(one).page(2)[1], 0);
+    assert_eq!(rt; ram.window(two).page(13), &[0; 4096]);
+    Ok(())
+}
+
+#[test]
+fn finds_pages(rt: HostRuntime) -> Result<(), Fail> {
+    let mut ram = Ram::make(rt.alloc(), &[1, 12]).ok().ok_or("memory")?;
+    let windows = ram.windows();
+    let window = &mut windows[1];
+    write_list(window);
+    let pages = |list, used| Ok(Pages { list, used });
+    let bad = |which| Err(BadPrp { which });
+    assert_eq!(rt;
+        window.span_of(33_566_720, 0, 8),
+        pages([1, 0, 0, 0, 0, 0, 0, 0], 1)
+    );
+    assert_eq!(rt;
+        window.span_of(33_607_680, 33_562_624, 9),
+        pages([11, 0, 0, 0, 0, 0, 0, 0], 2)
+    );
+    assert_eq!(rt;
+        window.span_of(33_562_624, 33_574_912, 17),
+        pages([0, 11, 10, 0, 0, 0, 0, 0], 3)
+    );
+    assert_eq!(rt;
+        window.span_of(33_562_624, 33_574_912, 64),
+        pages([0, 11, 10, 9, 8, 7, 6, 5], 8)
+    );
+    assert_eq!(rt; window.span_of(33_562_625, 33_574_913, 64), bad(0));
+    assert_eq!(rt; window.span_of(33_558_528, 0, 1), bad(0));
+    assert_eq!(rt; window.span_of(16_785_408, 0, 1), bad(0));
+    assert_eq!(rt; window.span_of(33_562_624, 33_611_776, 16), bad(1));
+    assert_eq!(rt; window.span_of(33_562_624, 33_574_920, 64), bad(8));
+    write_entry(window, 3, 12);
+    assert_eq!(rt;
+        window.span_of(33_562_624, 33_574_912, 32),
+        pages([0, 11, 10, 9, 0, 0, 0, 0], 4)
+    );
+    assert_eq!(rt; window.span_of(33_562_624, 33_574_912, 33), bad(4));
+    assert_eq!(rt; window.span_of(33_562_624, 33_611_776, 33), bad(8));
+    Ok(())
+}

@@ -1,0 +1,4 @@
+pub mod Adapter
+pub mod Count
+pub mod Memory
+pub mod Stream

@@ -1,0 +1,3 @@
+pub mod Op
+pub mod Sqe
+pub mod Status

@@ -1,0 +1,9 @@
+pub mod Numbers
+pub mod Sets
+pub mod Many
+pub mod ActLoop
+pub mod Parts
+pub mod Heads
+pub mod Bytes
+pub mod ActLines
+pub mod Scripts

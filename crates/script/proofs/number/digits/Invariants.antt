@@ -1,0 +1,10 @@
+use Rattle.std.proofs.Common.{◌≡◌, length}
+use Rattle.script.specs.Reading.{digits_from}
+use Rattle.script.specs.declared.number.Number.TheVariants.{Within}
+use Rattle.script.proofs.number.digits.Given as goal
+
+abbrev pub invariant-loop-rest : goal.invariant-loop-rest
+invariant-loop-rest l = digits_from l.number l.rest ≡ digits_from (Within 0) l.text
+
+abbrev pub decreases-loop-rest : goal.decreases-loop-rest
+decreases-loop-rest l = length l.rest

@@ -1,0 +1,26 @@
+use Rattle.std.proofs.Common.{◌≡◌, ◌+◌, ◌≤◌, All, length, take, drop, vec_len, vec_capacity}
+use Rattle.nvm_model.specs.declared.command.Command.{Command}
+use Rattle.nvm_model.specs.Piece.{pieces_left}
+use Rattle.guest_ram.specs.Window.{data_pages}
+use Rattle.session.specs.Goes.{Goes}
+use Rattle.session.specs.State.{lane_state, IsFetched, IsSameButRunning}
+use Rattle.session.specs.Work.{IsSized}
+use Rattle.session.proofs.pieces.do_pieces.Given as goal
+
+abbrev pub invariant-loop-place : goal.invariant-loop-place
+invariant-loop-place g l =
+    let medium = g.M.Medium in
+    record {
+      goes : Goes l.script l.ls.lane (medium.blocks l.fn.medium) (medium.faults l.fn.medium) (lane_state (data_pages l.fn.window) l.fn.pair) l.fn.events.items
+          (medium.blocks l.medium) (medium.faults l.medium) (lane_state (data_pages l.window) l.pair) l.events.items;
+      window_lane : l.window.lane ≡ l.fn.window.lane;
+      window_pages : length l.window.pages ≡ length l.fn.window.pages;
+      pair : IsSameButRunning l.fn.pair l.pair;
+      finished : All (λ (c : Command). pieces_left l.script.head.shelf c ≡ 0) (take l.place l.pair.running.items);
+      fetched : All (IsFetched l.script.head.blocks l.ls.set.pages) (drop l.place l.pair.running.items);
+      same_size : medium.size l.medium ≡ medium.size l.fn.medium;
+      sized : IsSized (medium.blocks l.medium) (medium.size l.medium);
+      least : vec_len l.fn.events ≤ vec_len l.events;
+      most : vec_len l.events ≤ vec_len l.fn.events + l.place;
+      capacity : vec_capacity l.events ≡ vec_capacity l.fn.events;
+    }

@@ -1,0 +1,62 @@
+// One turn: a list of events, which are written as lines after it.
+ghost use Rattle.std.specs.Prelude.{◌≡◌, ◌+◌, ◌*◌, ◌<◌, ◌≤◌, ◌↔◌, [], IsTrue, length, vec_capacity};
+ghost use Rattle.nvm_model.specs.ScriptText.{IsHead};
+ghost use Rattle.guest_ram.specs.Window.{data_pages};
+ghost use Rattle.session.specs.Goes.{Goes};
+ghost use Rattle.session.specs.State.{lane_state, IsLaneOf, IsSound, IsPairComplete, work_left};
+ghost use Rattle.session.specs.Work.{IsSized};
+
+use crate::controller::{fetch_all, post_all};
+use crate::guest::{do_acts, reap_all};
+use crate::pieces::do_pieces;
+use crate::{LaneScript, QueuePair};
+use guest_ram::Window;
+use mig_medium::Medium;
+use nvm_model::{Line, Script};
+
+/// The most events that one turn of a lane can have, for the largest queues and bursts.
+pub const MOST_EVENTS: usize = 512;
+
+/// Whether the guest has done its acts and no command of its is under way.
+pub(crate) fn is_complete(ls: &LaneScript, pair: &QueuePair) -> bool
+    ensures complete { IsTrue result → IsPairComplete ls.now pair.now }
+    ensures not { IsPairComplete ls.now pair.now → IsTrue result }
+{
+    pair.acts_done as usize == ls.acts.len() && pair.is_quiet()
+}
+
+/// Does one turn: the guest reaps and acts, the controller fetches, the pieces are done, and the completions are posted.
+pub(crate) fn turn<M: Medium>(
+    script: &Script,
+    ls: &LaneScript,
+    window: &mut Window,
+    pair: &mut QueuePair,
+    medium: &mut M,
+    events: &mut Vec<Line>,
+)
+    requires head { IsHead script.now.head }
+    requires shelf { script.now.head.shelf ≡ script.now.head.blocks }
+    requires lane { IsLaneOf script.now ls.now }
+    requires window { (window.old.lane ≡ ls.now.lane) × (length window.old.pages ≡ ls.now.set.pages + 2) }
+    requires sound { IsSound ls.now script.now.head.burst pair.old }
+    requires none { pair.old.running.items ≡ [] }
+    requires size { (M.size medium.old ≡ script.now.head.blocks) × IsSized (M.blocks medium.old) (M.size medium.old) }
+    requires room { 512 ≤ vec_capacity events.old }
+
+    ensures goes { Goes script.now ls.now.lane
+        (M.blocks medium.old) (M.faults medium.old) (lane_state (data_pages window.old) pair.old) []
+        (M.blocks medium.new) (M.faults medium.new) (lane_state (data_pages window.new) pair.new) events.new.items }
+    ensures window { (window.new.lane ≡ window.old.lane) × (length window.new.pages ≡ length window.old.pages) }
+    ensures sound { IsSound ls.now script.now.head.burst pair.new }
+    ensures none { pair.new.running.items ≡ [] }
+    ensures size { (M.size medium.new ≡ M.size medium.old) × IsSized (M.blocks medium.new) (M.size medium.new) }
+    ensures onward { (IsPairComplete ls.now pair.old → ⊥) → work_left ls.now pair.new < work_left ls.now pair.old }
+    ensures capacity { vec_capacity events.new ≡ vec_capacity events.old }
+{
+    events.clear();
+    reap_all(script, ls, window, pair, events);
+    do_acts(script, ls, window, pair, events);
+    fetch_all(script, ls, window, pair, events);
+    do_pieces(script, ls, window, pair, medium, events);
+    post_all(script, ls, window, pair, events);
+}
