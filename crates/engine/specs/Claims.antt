@@ -1,0 +1,139 @@
+use Rattle.std.specs.Prelude.{◌≡◌, ℕ, ◌≤◌, List, Option, Some, None}
+use Rattle.mig_base.specs.Count.{RisesBy}
+use Rattle.nvm_model.specs.declared.script.Script.{Script}
+use Rattle.nvm_model.specs.ScriptText.{IsScript, script_text}
+use Rattle.engine.specs.declared.status.Status.{Status}
+use Rattle.engine.specs.declared.status.Status.TheVariants.{Done, Usage, BadScript, TooLong, OutOfMemory, HostSize, ReadFault, WriteFault}
+use Rattle.engine.specs.Built.{IsTaken, SpellsOne, SpellsNone, IsTooLong}
+use Rattle.engine.specs.Sizes.{Differ}
+use Rattle.engine.specs.Words.{IsForm, IsNoForm}
+
+-- What each answer claims.
+
+-- why no script was read, of an input whose bytes may be told and whose faults are counted
+abbrev pub IsReadRefusal : Option (List ℕ) → ℕ → ℕ → Status → Type 0
+IsReadRefusal told before now (BadScript line why) = SpellsNone told
+IsReadRefusal told before now TooLong = IsTooLong told
+IsReadRefusal told before now ReadFault = RisesBy 1 before now
+IsReadRefusal told before now OutOfMemory = Unit {0}
+IsReadRefusal told before now Done = ⊥
+IsReadRefusal told before now Usage = ⊥
+IsReadRefusal told before now (HostSize kept asked) = ⊥
+IsReadRefusal told before now WriteFault = ⊥
+
+-- why a text gives no script
+abbrev pub IsNoScript : List ℕ → Status → Type 0
+IsNoScript text (BadScript line why) = (s : Script) → IsTaken s → text ≡ script_text s → ⊥
+IsNoScript text OutOfMemory = Unit {0}
+IsNoScript text TooLong = ⊥
+IsNoScript text ReadFault = ⊥
+IsNoScript text Done = ⊥
+IsNoScript text Usage = ⊥
+IsNoScript text (HostSize kept asked) = ⊥
+IsNoScript text WriteFault = ⊥
+
+-- of a call that came to its end
+abbrev pub OnDone : Status → Type 0 → Type 0
+OnDone Done claim = claim
+OnDone Usage claim = Unit {0}
+OnDone (BadScript line why) claim = Unit {0}
+OnDone TooLong claim = Unit {0}
+OnDone OutOfMemory claim = Unit {0}
+OnDone (HostSize kept asked) claim = Unit {0}
+OnDone ReadFault claim = Unit {0}
+OnDone WriteFault claim = Unit {0}
+
+-- `Usage` exactly where the words are no form
+abbrev pub IsUsage : List (List ℕ) → Status → Type 0
+IsUsage words Usage = IsNoForm words
+IsUsage words Done = IsForm words
+IsUsage words (BadScript line why) = IsForm words
+IsUsage words TooLong = IsForm words
+IsUsage words OutOfMemory = IsForm words
+IsUsage words (HostSize kept asked) = IsForm words
+IsUsage words ReadFault = IsForm words
+IsUsage words WriteFault = IsForm words
+
+-- `BadScript` where the whole input spells no script that is taken, and a run or a comparison of sizes where it spells one
+abbrev pub IsBadScript : Option (List ℕ) → Status → Type 0
+IsBadScript told (BadScript line why) = SpellsNone told
+IsBadScript told Done = SpellsOne told
+IsBadScript told (HostSize kept asked) = SpellsOne told
+IsBadScript told WriteFault = SpellsOne told
+IsBadScript told Usage = Unit {0}
+IsBadScript told TooLong = Unit {0}
+IsBadScript told OutOfMemory = Unit {0}
+IsBadScript told ReadFault = Unit {0}
+
+-- `TooLong` only for an input that is too long
+abbrev pub IsLong : Option (List ℕ) → Status → Type 0
+IsLong told TooLong = IsTooLong told
+IsLong told Done = Unit {0}
+IsLong told Usage = Unit {0}
+IsLong told (BadScript line why) = Unit {0}
+IsLong told OutOfMemory = Unit {0}
+IsLong told (HostSize kept asked) = Unit {0}
+IsLong told ReadFault = Unit {0}
+IsLong told WriteFault = Unit {0}
+
+-- `HostSize` with the first size of either host that differs from the script's, and a run where none does
+abbrev pub IsHostSize : Option (List ℕ) → List ℕ → List ℕ → Status → Type 0
+IsHostSize told from to (HostSize kept asked) = Differ told from to (Some (kept, asked))
+IsHostSize told from to Done = Differ told from to None
+IsHostSize told from to WriteFault = Differ told from to None
+IsHostSize told from to Usage = Unit {0}
+IsHostSize told from to (BadScript line why) = Unit {0}
+IsHostSize told from to TooLong = Unit {0}
+IsHostSize told from to OutOfMemory = Unit {0}
+IsHostSize told from to ReadFault = Unit {0}
+
+-- a fault of the input or of the output
+abbrev pub IsReadFault : ℕ → ℕ → Status → Type 0
+IsReadFault before now ReadFault = RisesBy 1 before now
+IsReadFault before now Done = Unit {0}
+IsReadFault before now Usage = Unit {0}
+IsReadFault before now (BadScript line why) = Unit {0}
+IsReadFault before now TooLong = Unit {0}
+IsReadFault before now OutOfMemory = Unit {0}
+IsReadFault before now (HostSize kept asked) = Unit {0}
+IsReadFault before now WriteFault = Unit {0}
+
+abbrev pub IsWriteFault : ℕ → ℕ → Status → Type 0
+IsWriteFault before now WriteFault = RisesBy 1 before now
+IsWriteFault before now Done = Unit {0}
+IsWriteFault before now Usage = Unit {0}
+IsWriteFault before now (BadScript line why) = Unit {0}
+IsWriteFault before now TooLong = Unit {0}
+IsWriteFault before now OutOfMemory = Unit {0}
+IsWriteFault before now (HostSize kept asked) = Unit {0}
+IsWriteFault before now ReadFault = Unit {0}
+
+-- of an answer that comes before the first line of a run
+abbrev pub OnRefused : Status → Type 0 → Type 0
+OnRefused Done claim = Unit {0}
+OnRefused WriteFault claim = Unit {0}
+OnRefused Usage claim = claim
+OnRefused (BadScript line why) claim = claim
+OnRefused TooLong claim = claim
+OnRefused OutOfMemory claim = claim
+OnRefused (HostSize kept asked) claim = claim
+OnRefused ReadFault claim = claim
+
+abbrev pub IsBeforeRun : Status → Type 0
+IsBeforeRun Done = ⊥
+IsBeforeRun WriteFault = ⊥
+IsBeforeRun Usage = Unit {0}
+IsBeforeRun (BadScript line why) = Unit {0}
+IsBeforeRun TooLong = Unit {0}
+IsBeforeRun OutOfMemory = Unit {0}
+IsBeforeRun (HostSize kept asked) = Unit {0}
+IsBeforeRun ReadFault = Unit {0}
+
+-- why nothing was run
+pub record IsRefusal (words : List (List ℕ)) (told : Option (List ℕ)) (before now : ℕ) (from to : List ℕ) (status : Status) : Type 0 where
+  pub usage : IsUsage words status
+  pub bad_script : IsBadScript told status
+  pub too_long : IsLong told status
+  pub host_size : IsHostSize told from to status
+  pub read_fault : IsReadFault before now status
+  pub not_run : IsBeforeRun status

@@ -1,0 +1,44 @@
+use Rattle.std.specs.Prelude.{◌≡◌, ℕ, ◌+◌, ◌-◌, ◌^◌, ◌<◌, ◌≤◌, List, [], ◌∷◌, ◌++◌, Option, Some, None, All, map, sum}
+use Rattle.std.specs.Option.{option_map}
+use Rattle.nvm_model.specs.declared.line.Line.{Line}
+use Rattle.nvm_model.specs.declared.script.Script.{Script}
+use Rattle.nvm_model.specs.World.{Lane, World}
+use Rattle.nvm_model.specs.History.{events_of, Reaches, IsWhole}
+use Rattle.nvm_model.specs.Text.{IsTranscript}
+use Rattle.engine.specs.Built.{IsTaken, Spells}
+
+-- What a run that came to its end left, beside the hosts.
+
+-- The script that the input spelled, the lines of the text that the sink took, a whole transcript for the script, and
+-- the world that their events reach from the blocks at entry, each legal where it stands.
+pub record Run (input : Option (List ℕ)) (blocks : List (List ℕ)) (text : List ℕ) : Type 0 where
+  pub script : Script
+  pub taken : IsTaken script
+  pub spelled : Spells input script
+  pub lines : List Line
+  pub transcript : IsTranscript text lines
+  pub whole : IsWhole script lines
+  pub world : World
+  pub legal : Reaches script blocks (events_of lines) world
+
+-- There was such a run, of which P holds, where the blocks and the text are told.
+abbrev pub Ran : Option (List ℕ) → Option (List (List ℕ)) → Option (List ℕ) → Option (List ℕ) → (Script → List Line → World → Type 0) → Type 0
+Ran input (Some blocks) (Some before) after P =
+    (text : List ℕ) × (after ≡ Some (before ++ text)) × (run : Run input blocks text) × P run.script run.lines run.world
+Ran input None before after P = Unit {0}
+Ran input (Some blocks) None after P = Unit {0}
+
+-- a namespace's blocks, shelf after shelf, where each shelf's are told
+abbrev pub joined : List (Option (List (List ℕ))) → Option (List (List ℕ))
+joined [] = Some []
+joined (None ∷ shelves) = None
+joined (Some blocks ∷ shelves) = option_map (λ others. blocks ++ others) (joined shelves)
+
+-- a host's blocks and its guests' data pages are those of the world
+pub record Holds (shelves : List (Option (List (List ℕ)))) (memory : List (List (List ℕ))) (w : World) : Type 0 where
+  pub blocks : joined shelves ≡ Some w.blocks
+  pub memory_is : memory ≡ map (λ (l : Lane). l.pages) w.lanes
+
+-- The counts of faults rose by n or more together, as far as they hadn't reached their types' ends.
+abbrev pub RoseBy : ℕ → List ℕ → List ℕ → Type 0
+RoseBy n before now = All (λ count. count < 2 ^ 64 - 1) now → n + sum before ≤ sum now

@@ -1,0 +1,8 @@
+pub mod StatusText
+pub mod Words
+pub mod Sizes
+pub mod Built
+pub mod Claims
+pub mod Room
+pub mod Headline
+pub mod Ended

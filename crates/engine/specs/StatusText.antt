@@ -1,0 +1,33 @@
+use Rattle.std.specs.Prelude.{ℕ, List, [], ◌++◌, codes, decimal}
+use Rattle.script.specs.declared.refusal.Why.{Why}
+use Rattle.script.specs.declared.refusal.Why.TheVariants.{Form, Range, Cut, More}
+use Rattle.engine.specs.declared.status.Status.{Status}
+use Rattle.engine.specs.declared.status.Status.TheVariants.{Done, Usage, BadScript, TooLong, OutOfMemory, HostSize, ReadFault, WriteFault}
+
+-- the exit status of the program
+abbrev pub code_of : Status → ℕ
+code_of Done = 0
+code_of Usage = 1
+code_of (BadScript line why) = 2
+code_of TooLong = 2
+code_of OutOfMemory = 3
+code_of (HostSize kept asked) = 4
+code_of ReadFault = 5
+code_of WriteFault = 6
+
+abbrev pub why_text : Why → List ℕ
+why_text Form = codes ": form\n"
+why_text Range = codes ": range\n"
+why_text Cut = codes ": cut\n"
+why_text More = codes ": more\n"
+
+-- what the program says of it on standard error
+abbrev pub status_text : Status → List ℕ
+status_text Done = []
+status_text Usage = codes "usage\n"
+status_text (BadScript line why) = codes "bad script line " ++ decimal line ++ why_text why
+status_text TooLong = codes "too long\n"
+status_text OutOfMemory = codes "out of memory\n"
+status_text (HostSize kept asked) = codes "host size: kept " ++ decimal kept ++ codes " asked " ++ decimal asked ++ codes "\n"
+status_text ReadFault = codes "read fault\n"
+status_text WriteFault = codes "write fault\n"

@@ -1,0 +1,18 @@
+//! The top call: it reads words and a script, and runs the script's guests over the hosts. Its contract is the product's:
+//! the transcript is a legal and complete history of one controller over one array of blocks, the host holds the world
+//! that it reaches, and every other answer has its cause.
+#![tactic(auto)]
+
+mod free_gate;
+mod hosts;
+mod reading;
+mod room;
+mod status;
+mod top;
+mod words;
+
+pub use free_gate::FreeGate;
+pub use script::Why;
+pub use status::Status;
+pub use top::nvmigrate;
+pub use words::geometry;

@@ -1,0 +1,72 @@
+// The script, out of the input.
+ghost use Rattle.std.specs.Prelude.{◌≡◌, ◌≤◌, None, length, IfOk, IfErr, IfSome, IfNone};
+ghost use Rattle.nvm_model.specs.ScriptText.{script_text};
+ghost use Rattle.engine.specs.Built.{IsTaken, Spells};
+ghost use Rattle.engine.specs.Claims.{IsReadRefusal, IsNoScript};
+
+use crate::Status;
+use mig_base::{CollectRefusal, Source, collect};
+use script::{BadLine, Head, ParseRefusal, Script, Why, parse};
+use std::alloc::Global;
+
+/// The longest input that is read, in bytes.
+const MOST_BYTES: usize = 4_194_304;
+
+/// Reads the input to its end, and answers the script that it spells.
+///
+/// # Errors
+///
+/// The status that the program ends with: a fault of the input, an input that is too long, no script, or no memory.
+pub(crate) fn read_script<S: Source>(alloc: Global, input: &mut S) -> Result<Script, Status>
+    ensures taken { IfOk result IsTaken }
+    ensures spells { IfOk result (Spells (S.left input.old)) }
+    ensures refusal { IfErr result (IsReadRefusal (S.left input.old) (S.faults input.old) (S.faults input.new)) }
+{
+    match collect(alloc, input, MOST_BYTES) {
+        Ok(text) => take_script(alloc, text.as_slice()),
+        Err(CollectRefusal::Fault) => Err(Status::ReadFault),
+        Err(CollectRefusal::TooLong) => Err(Status::TooLong),
+        Err(CollectRefusal::OutOfMemory) => Err(Status::OutOfMemory),
+    }
+}
+
+/// The script that a text spells, if it is one that is taken.
+fn take_script(alloc: Global, text: &[u8]) -> Result<Script, Status>
+    requires { length text.now ≤ 4194304 }
+    ensures taken { IfOk result IsTaken }
+    ensures spells { IfOk result (λ s. text.now ≡ script_text s) }
+    ensures refusal { IfErr result (IsNoScript text.now) }
+{
+    let script = match parse(alloc, text) {
+        Ok(script) => script,
+        Err(ParseRefusal::Bad(BadLine { line, why })) => {
+            return Err(Status::BadScript { line, why });
+        }
+        Err(ParseRefusal::OutOfMemory) => return Err(Status::OutOfMemory),
+    };
+    match unbuilt_line(&script.head) {
+        None => Ok(script),
+        Some(line) => Err(Status::BadScript {
+            line,
+            why: Why::Range,
+        }),
+    }
+}
+
+/// The first line of the head that asks for what isn't built yet.
+fn unbuilt_line(head: &Head) -> Option<u32>
+    ensures built { IfNone result ((head.now.shelf ≡ head.now.blocks) × (head.now.lanes ≡ 1) × (head.now.mix ≡ 0) × (head.now.migrate ≡ None)) }
+    ensures unbuilt { IfSome result (λ _. head.now.shelf ≡ head.now.blocks → head.now.lanes ≡ 1 → head.now.mix ≡ 0 → head.now.migrate ≡ None → ⊥) }
+{
+    if head.shelf != head.blocks {
+        Some(3)
+    } else if head.lanes != 1 {
+        Some(4)
+    } else if head.mix != 0 {
+        Some(7)
+    } else if head.migrate.is_some() {
+        Some(13)
+    } else {
+        None
+    }
+}

@@ -1,0 +1,35 @@
+// What the program tells of itself.
+
+const HELP: &str = "\
+nvmigrate: a software NVMe controller whose runs are proved to be legal histories
+
+nvmigrate run serial BLOCKS SHELF
+    reads a script from standard input, runs its guest on one thread over
+    BLOCKS blocks of 512 zero bytes, in shelves of SHELF blocks, and writes
+    the transcript to standard output. BLOCKS is from 1 to 131072, SHELF from
+    1 to 65536, SHELF divides BLOCKS, and there are at most 64 shelves.
+nvmigrate --help
+    writes this text.
+nvmigrate --version
+    writes the version.
+
+exit status
+    0  done
+    1  the words are no form above
+    2  the input is no script that is taken, or it is too long
+    3  out of memory, before anything was written
+    4  a host differs from the script
+    5  a read of standard input failed
+    6  a write of standard output failed
+";
+
+const VERSION: &str = "nvmigrate 0.1.0\n";
+
+/// The text that the words ask for, where they are `--help` or `--version`.
+pub(crate) fn told(words: &[String]) -> Option<&'static str> {
+    match words {
+        [word] if word.as_str() == "--help" => Some(HELP),
+        [word] if word.as_str() == "--version" => Some(VERSION),
+        _ => None,
+    }
+}
