@@ -16,3 +16,6 @@ pub use script::Why;
 pub use status::Status;
 pub use top::nvmigrate;
 pub use words::geometry;
+
+#[cfg(test)]
+mod tests;
