@@ -1,4 +1,5 @@
-// The program: its words, real hosts, the process's streams, and the exit status.
+//! The program: it makes real hosts and streams, hands the words to the top call, writes the status that comes back to
+//! standard error, and ends with its code. It answers `--help` and `--version` itself.
 #![tactic(auto)]
 
 mod host;
