@@ -1,11 +1,11 @@
-use Rattle.std.proofs.Common.{◌≡◌, ℕ, suc, ◌+◌, ◌≤◌, List, [], ◌∷◌, ◌++◌, Option, length, map, take, drop, replicate, get_or, slice_set, refl, sym, ap, subst, ◌∙◌, arith}
-use Rattle.nvm_model.specs.declared.script.Script.{Script}
+use Rattle.std.proofs.Common.{◌≡◌, ℕ, suc, ◌+◌, List, [], ◌∷◌, map, drop, replicate, get_or, slice_set, slice_index_or, refl, sym, ap, subst, ◌∙◌, arith}
+use Rattle.std.proofs.lemmas.List.{length-replicate}
 use Rattle.nvm_model.specs.Memory.{zero_page}
 use Rattle.nvm_model.specs.World.{Lane, new_lane}
-use Rattle.guest_ram.specs.Window.{WindowState, data_pages}
-use Rattle.guest_ram.specs.Ram.{windows_made}
+use Rattle.guest_ram.specs.Window.{WindowState, data_pages, no_window}
+use Rattle.guest_ram.specs.Ram.{windows_made, shape}
 use Rattle.session.specs.declared.queue_pair.QueuePair.{QueuePair}
-use Rattle.session.specs.Run.{HasRun}
+use Rattle.session.specs.Side.{memory_of}
 use Rattle.session.specs.State.{lane_state}
 
 -- what a function says of the only element of a list
@@ -19,12 +19,11 @@ only_set f size n [] x sizes = cc
 only_set f size n (y ∷ []) x sizes = refl
 only_set f size n (y ∷ z ∷ ys) x sizes = cc
 
--- the memory of one window, written
-pub window_set : (ram windows : List WindowState) (made w : WindowState) → ram ≡ made ∷ [] → windows ≡ ram →
-    map data_pages (take (length ram) (slice_set windows 0 w ++ drop (length (slice_set windows 0 w)) ram)) ≡ data_pages w ∷ []
-window_set ram windows made w one same =
-    subst (λ (ws : List WindowState). map data_pages (take (length ram) (slice_set ws 0 w ++ drop (length (slice_set ws 0 w)) ram)) ≡ data_pages w ∷ []) (sym (same ∙ one))
-    (ap (λ (r : List WindowState). map data_pages (take (length r) (w ∷ drop 1 r))) one)
+-- the data pages of the one window
+pub only_pages : (ram : List WindowState) (k n : ℕ) → shape ram ≡ (k, n) ∷ [] → map data_pages ram ≡ memory_of ram ∷ []
+only_pages [] k n same = cc
+only_pages (w ∷ []) k n same = refl
+only_pages (w ∷ v ∷ ram) k n same = cc
 
 -- a window as it is made has zeroed data pages
 made_pages : (n : ℕ) (w : WindowState) → w ≡ record { lane = 1; pages = replicate (n + 2) zero_page } → data_pages w ≡ replicate n zero_page
@@ -32,17 +31,17 @@ made_pages n w is =
     let two : n + 2 ≡ suc (suc n) = omega arith in
     ap (λ (v : WindowState). data_pages v) is ∙ ap (λ (k : ℕ). drop 2 (replicate k zero_page)) two
 
--- a new queue pair with that window is a new lane
-pub lane_starts : (n : ℕ) (ram windows : List WindowState) (d : WindowState) (pair : QueuePair) → ram ≡ windows_made 1 (n ∷ []) → windows ≡ ram → lane_state [] pair ≡ new_lane 0 →
-    lane_state (data_pages (get_or windows 0 d)) pair ≡ new_lane n
-lane_starts n ram windows d pair made same new =
-    let w = get_or windows 0 d in
-    let first : w ≡ record { lane = 1; pages = replicate (n + 2) zero_page } = ap (λ (ws : List WindowState). get_or ws 0 d) (same ∙ made) in
-    ap (λ (l : Lane). record l { pages = data_pages w }) new ∙ ap (λ (pages : List (List ℕ)). record { pages = pages; acts = 0; submitted = []; fetched = 0; running = []; posted = []; reaped = 0 }) (made_pages n w first)
+-- a memory as it is made for one lane is that lane's
+pub made_memory : (k n : ℕ) (ram : List WindowState) → k ≡ 1 → ram ≡ windows_made 1 (n ∷ []) → shape ram ≡ (k, n + 2) ∷ []
+made_memory k n ram first made =
+    ap shape made ∙ ap (λ (m : ℕ). (1, m) ∷ []) (length-replicate (n + 2) zero_page) ∙ ap (λ (j : ℕ). (j, n + 2) ∷ []) (sym first)
 
-pub run_is : (s : Script) (k n m : ℕ) (told : Option (List (List ℕ))) (count : ℕ) (start begun : Lane) (bytes : Option (List ℕ)) (new_told : Option (List (List ℕ))) (new_count : ℕ) (lane : Lane) (new_bytes : Option (List ℕ)) →
-    k ≡ 1 → n ≡ m → start ≡ begun → HasRun s k n told count start bytes new_told new_count lane new_bytes → HasRun s 1 m told count begun bytes new_told new_count lane new_bytes
-run_is s k n m told count start begun bytes new_told new_count lane new_bytes one acts begins run =
-    subst (λ (x : ℕ). HasRun s x m told count begun bytes new_told new_count lane new_bytes) one
-    (subst (λ (x : ℕ). HasRun s k x told count begun bytes new_told new_count lane new_bytes) acts
-    (subst (λ (x : Lane). HasRun s k n told count x bytes new_told new_count lane new_bytes) begins run))
+-- a new queue pair with that memory is a new lane
+pub lane_starts : (n : ℕ) (ram : List WindowState) (pair : QueuePair) → ram ≡ windows_made 1 (n ∷ []) → lane_state [] pair ≡ new_lane 0 → lane_state (memory_of ram) pair ≡ new_lane n
+lane_starts n ram pair made new =
+    let first = ap (λ (ws : List WindowState). slice_index_or ws 0 no_window) made in
+    ap (λ (l : Lane). record l { pages = memory_of ram }) new ∙ ap (λ (pages : List (List ℕ)). record { pages = pages; acts = 0; submitted = []; fetched = 0; running = []; posted = []; reaped = 0 }) (made_pages n (slice_index_or ram 0 no_window) first)
+
+-- the facts of a run, of the first lane from its start
+pub run_is : {k : ℕ} {start begun : Lane} (P : ℕ → Lane → Type 0) → k ≡ 1 → start ≡ begun → P k start → P 1 begun
+run_is {k} {start} {begun} P first begins run = subst (λ (x : ℕ). P x begun) first (subst (λ (l : Lane). P k l) begins run)

@@ -1,9 +1,8 @@
-use Rattle.std.proofs.Common.{◌≡◌, ◌⊎◌, Result, Ok, Err, inl, inr, subst, sym}
+use Rattle.std.proofs.Common.{◌≡◌, ◌⊎◌, Result, Ok, Err, inl, inr}
 use Rattle.nvm_model.specs.declared.script.Script.{Script}
 use Rattle.script.specs.declared.refusal.BadLine.{BadLine}
 use Rattle.script.specs.declared.refusal.ParseRefusal.{ParseRefusal}
 use Rattle.script.specs.declared.refusal.ParseRefusal.TheVariants.{Bad, OutOfMemory}
-use Rattle.engine.specs.Built.{IsTaken}
 
 -- a bad line is neither a script nor a want of memory
 pub bad_is_neither : (s : Script) (r : ParseRefusal) (bad : BadLine) → r ≡ Bad bad → (◌≡◌ {A = Result Script ParseRefusal} (Err r) (Ok s)) ⊎ (◌≡◌ {A = Result Script ParseRefusal} (Err r) (Err OutOfMemory)) → ⊥

@@ -1,4 +1,4 @@
-use Rattle.std.proofs.Common.{◌≡◌, ℕ, suc, ◌+◌, ◌*◌, ◌/◌, ◌<◌, ◌≤◌, Bool, true, false, cond, List, [], ◌∷◌, ◌++◌, Option, Some, None, length, map, refl, sym, ap, subst, ◌∙◌, arith}
+use Rattle.std.proofs.Common.{◌≡◌, ℕ, suc, ◌+◌, ◌*◌, ◌/◌, ◌≤◌, Bool, true, false, List, [], ◌∷◌, ◌++◌, Option, Some, None, length, refl, sym, ap, ◌∙◌, append-nil, arith}
 use Rattle.std.specs.Prelude.{if◌then◌else◌, ◌==◌}
 use Rattle.std.proofs.lemmas.Bool.{eqb-true}
 use Rattle.std.proofs.lemmas.Nat.{div-mul-add}
@@ -58,10 +58,26 @@ one_shelf (x ∷ y ∷ sizes) count shelf others one e =
     let never : ⊥ = omega (arith, same, one) in
     absurd never
 
+-- where none of two lists of pairs differs, none of the first does
+none_of_first : (xs ys : List (ℕ × ℕ)) → first_difference (xs ++ ys) ≡ None → first_difference xs ≡ None
+none_of_first [] ys e = refl
+none_of_first (x ∷ xs) ys e =
+    let h = equal_if (x.0 == x.1) (first_difference (xs ++ ys)) x e in
+    ap (λ (b : Bool). if b then first_difference xs else Some x) h.0 ∙ none_of_first xs ys h.1
+
 -- hosts of the sizes of a script that is taken have one shelf, of all its blocks
 pub has_one_shelf : (s : Script) (from to : List ℕ) → IsTaken s → HaveSizes s from to → from ≡ s.head.blocks ∷ []
 has_one_shelf s from to taken same =
     let some : 1 ≤ s.head.shelf = taken.script.head.shelf.0 in
-    let whole : s.head.blocks ≡ 1 * s.head.shelf + 0 = omega (arith, taken.shelf) in
+    let whole : s.head.blocks ≡ 1 * s.head.shelf + 0 = omega (arith, taken.built.shelf) in
     let one : s.head.blocks / s.head.shelf ≡ 1 = ap (λ (n : ℕ). n / s.head.shelf) whole ∙ div-mul-add 1 s.head.shelf 0 some in
-    one_shelf from (s.head.blocks / s.head.shelf) s.head.shelf _ one same ∙ ap (λ (n : ℕ). n ∷ []) taken.shelf
+    one_shelf from (s.head.blocks / s.head.shelf) s.head.shelf _ one same ∙ ap (λ (n : ℕ). n ∷ []) taken.built.shelf
+
+pub has_one_other : (s : Script) (from to : List ℕ) → IsTaken s → HaveSizes s from to → to ≡ s.head.blocks ∷ []
+has_one_other s from to taken same =
+    let first = none_of_first (sizes_of from (s.head.blocks / s.head.shelf) s.head.shelf) (sizes_of to (s.head.blocks / s.head.shelf) s.head.shelf) same in
+    let second = sym (none_first (sizes_of from (s.head.blocks / s.head.shelf) s.head.shelf) (sizes_of to (s.head.blocks / s.head.shelf) s.head.shelf) first) ∙ same in
+    let some : 1 ≤ s.head.shelf = taken.script.head.shelf.0 in
+    let whole : s.head.blocks ≡ 1 * s.head.shelf + 0 = omega (arith, taken.built.shelf) in
+    let one : s.head.blocks / s.head.shelf ≡ 1 = ap (λ (n : ℕ). n / s.head.shelf) whole ∙ div-mul-add 1 s.head.shelf 0 some in
+    one_shelf to (s.head.blocks / s.head.shelf) s.head.shelf [] one (ap first_difference (append-nil (sizes_of to (s.head.blocks / s.head.shelf) s.head.shelf)) ∙ second) ∙ ap (λ (n : ℕ). n ∷ []) taken.built.shelf

@@ -1,14 +1,21 @@
-use Rattle.std.specs.Prelude.{◌≡◌, ℕ, ◌≤◌, List, Option, Some, None, length}
+use Rattle.std.specs.Prelude.{◌≡◌, ℕ, ◌≤◌, List, Option, Some, None, IfSome, length}
+use Rattle.nvm_model.specs.declared.script.Head.{Head}
 use Rattle.nvm_model.specs.declared.script.Script.{Script}
+use Rattle.nvm_model.specs.World.{window_pages}
 use Rattle.nvm_model.specs.ScriptText.{IsScript, script_text}
 
--- The scripts that are taken: those of the grammar with one lane, one shelf, no mixed order and no migration.
+-- The heads that are taken: one lane, one shelf, no mixed order, and no migration but one that copies everything while
+-- the guest is suspended.
+pub record IsBuilt (head : Head) : Type 0 where
+  pub shelf : head.shelf ≡ head.blocks
+  pub lanes : head.lanes ≡ 1
+  pub mix : head.mix ≡ 0
+  pub moves : IfSome head.migrate (λ _. (head.small ≡ head.blocks) × (window_pages head ≤ head.pages))
+
+-- the scripts that are taken: those of the grammar with such a head
 pub record IsTaken (s : Script) : Type 0 where
   pub script : IsScript s
-  pub shelf : s.head.shelf ≡ s.head.blocks
-  pub lanes : s.head.lanes ≡ 1
-  pub mix : s.head.mix ≡ 0
-  pub migrate : s.head.migrate ≡ None
+  pub built : IsBuilt s.head
 
 -- the longest input that is read, in bytes
 abbrev pub most_bytes : ℕ

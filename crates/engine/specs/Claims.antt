@@ -1,9 +1,9 @@
-use Rattle.std.specs.Prelude.{◌≡◌, ℕ, ◌≤◌, List, Option, Some, None}
+use Rattle.std.specs.Prelude.{◌≡◌, ℕ, Bool, true, false, List, Option, Some, None}
 use Rattle.mig_base.specs.Count.{RisesBy}
 use Rattle.nvm_model.specs.declared.script.Script.{Script}
-use Rattle.nvm_model.specs.ScriptText.{IsScript, script_text}
+use Rattle.nvm_model.specs.ScriptText.{script_text}
 use Rattle.engine.specs.declared.status.Status.{Status}
-use Rattle.engine.specs.declared.status.Status.TheVariants.{Done, Usage, BadScript, TooLong, OutOfMemory, HostSize, ReadFault, WriteFault}
+use Rattle.engine.specs.declared.status.Status.TheVariants.{Done, Usage, BadScript, TooLong, OutOfMemory, HostSize, ReadFault, WriteFault, GaveUp}
 use Rattle.engine.specs.Built.{IsTaken, SpellsOne, SpellsNone, IsTooLong}
 use Rattle.engine.specs.Sizes.{Differ}
 use Rattle.engine.specs.Words.{IsForm, IsNoForm}
@@ -17,6 +17,7 @@ IsReadRefusal told before now TooLong = IsTooLong told
 IsReadRefusal told before now ReadFault = RisesBy 1 before now
 IsReadRefusal told before now OutOfMemory = Unit {0}
 IsReadRefusal told before now Done = ⊥
+IsReadRefusal told before now GaveUp = ⊥
 IsReadRefusal told before now Usage = ⊥
 IsReadRefusal told before now (HostSize kept asked) = ⊥
 IsReadRefusal told before now WriteFault = ⊥
@@ -28,25 +29,45 @@ IsNoScript text OutOfMemory = Unit {0}
 IsNoScript text TooLong = ⊥
 IsNoScript text ReadFault = ⊥
 IsNoScript text Done = ⊥
+IsNoScript text GaveUp = ⊥
 IsNoScript text Usage = ⊥
 IsNoScript text (HostSize kept asked) = ⊥
 IsNoScript text WriteFault = ⊥
 
 -- of a call that came to its end
-abbrev pub OnDone : Status → Type 0 → Type 0
-OnDone Done claim = claim
-OnDone Usage claim = Unit {0}
-OnDone (BadScript line why) claim = Unit {0}
-OnDone TooLong claim = Unit {0}
-OnDone OutOfMemory claim = Unit {0}
-OnDone (HostSize kept asked) claim = Unit {0}
-OnDone ReadFault claim = Unit {0}
-OnDone WriteFault claim = Unit {0}
+abbrev pub OnEnded : Status → Type 0 → Type 0
+OnEnded Done claim = claim
+OnEnded GaveUp claim = claim
+OnEnded Usage claim = Unit {0}
+OnEnded (BadScript line why) claim = Unit {0}
+OnEnded TooLong claim = Unit {0}
+OnEnded OutOfMemory claim = Unit {0}
+OnEnded (HostSize kept asked) claim = Unit {0}
+OnEnded ReadFault claim = Unit {0}
+OnEnded WriteFault claim = Unit {0}
+
+-- of a call that stopped where the output failed
+abbrev pub OnWriteFault : Status → Type 0 → Type 0
+OnWriteFault WriteFault claim = claim
+OnWriteFault Done claim = Unit {0}
+OnWriteFault GaveUp claim = Unit {0}
+OnWriteFault Usage claim = Unit {0}
+OnWriteFault (BadScript line why) claim = Unit {0}
+OnWriteFault TooLong claim = Unit {0}
+OnWriteFault OutOfMemory claim = Unit {0}
+OnWriteFault (HostSize kept asked) claim = Unit {0}
+OnWriteFault ReadFault claim = Unit {0}
+
+-- the answer of a call that gave its migration up
+abbrev pub is_gave_up : Status → Bool
+is_gave_up GaveUp = true
+is_gave_up _ = false
 
 -- `Usage` exactly where the words are no form
 abbrev pub IsUsage : List (List ℕ) → Status → Type 0
 IsUsage words Usage = IsNoForm words
 IsUsage words Done = IsForm words
+IsUsage words GaveUp = IsForm words
 IsUsage words (BadScript line why) = IsForm words
 IsUsage words TooLong = IsForm words
 IsUsage words OutOfMemory = IsForm words
@@ -58,6 +79,7 @@ IsUsage words WriteFault = IsForm words
 abbrev pub IsBadScript : Option (List ℕ) → Status → Type 0
 IsBadScript told (BadScript line why) = SpellsNone told
 IsBadScript told Done = SpellsOne told
+IsBadScript told GaveUp = SpellsOne told
 IsBadScript told (HostSize kept asked) = SpellsOne told
 IsBadScript told WriteFault = SpellsOne told
 IsBadScript told Usage = Unit {0}
@@ -69,6 +91,7 @@ IsBadScript told ReadFault = Unit {0}
 abbrev pub IsLong : Option (List ℕ) → Status → Type 0
 IsLong told TooLong = IsTooLong told
 IsLong told Done = Unit {0}
+IsLong told GaveUp = Unit {0}
 IsLong told Usage = Unit {0}
 IsLong told (BadScript line why) = Unit {0}
 IsLong told OutOfMemory = Unit {0}
@@ -80,6 +103,7 @@ IsLong told WriteFault = Unit {0}
 abbrev pub IsHostSize : Option (List ℕ) → List ℕ → List ℕ → Status → Type 0
 IsHostSize told from to (HostSize kept asked) = Differ told from to (Some (kept, asked))
 IsHostSize told from to Done = Differ told from to None
+IsHostSize told from to GaveUp = Differ told from to None
 IsHostSize told from to WriteFault = Differ told from to None
 IsHostSize told from to Usage = Unit {0}
 IsHostSize told from to (BadScript line why) = Unit {0}
@@ -91,6 +115,7 @@ IsHostSize told from to ReadFault = Unit {0}
 abbrev pub IsReadFault : ℕ → ℕ → Status → Type 0
 IsReadFault before now ReadFault = RisesBy 1 before now
 IsReadFault before now Done = Unit {0}
+IsReadFault before now GaveUp = Unit {0}
 IsReadFault before now Usage = Unit {0}
 IsReadFault before now (BadScript line why) = Unit {0}
 IsReadFault before now TooLong = Unit {0}
@@ -101,6 +126,7 @@ IsReadFault before now WriteFault = Unit {0}
 abbrev pub IsWriteFault : ℕ → ℕ → Status → Type 0
 IsWriteFault before now WriteFault = RisesBy 1 before now
 IsWriteFault before now Done = Unit {0}
+IsWriteFault before now GaveUp = Unit {0}
 IsWriteFault before now Usage = Unit {0}
 IsWriteFault before now (BadScript line why) = Unit {0}
 IsWriteFault before now TooLong = Unit {0}
@@ -111,6 +137,7 @@ IsWriteFault before now ReadFault = Unit {0}
 -- of an answer that comes before the first line of a run
 abbrev pub OnRefused : Status → Type 0 → Type 0
 OnRefused Done claim = Unit {0}
+OnRefused GaveUp claim = Unit {0}
 OnRefused WriteFault claim = Unit {0}
 OnRefused Usage claim = claim
 OnRefused (BadScript line why) claim = claim
@@ -121,6 +148,7 @@ OnRefused ReadFault claim = claim
 
 abbrev pub IsBeforeRun : Status → Type 0
 IsBeforeRun Done = ⊥
+IsBeforeRun GaveUp = ⊥
 IsBeforeRun WriteFault = ⊥
 IsBeforeRun Usage = Unit {0}
 IsBeforeRun (BadScript line why) = Unit {0}

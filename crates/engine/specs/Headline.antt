@@ -1,16 +1,16 @@
-use Rattle.std.specs.Prelude.{◌≡◌, ℕ, ◌+◌, ◌-◌, ◌^◌, ◌<◌, ◌≤◌, List, [], ◌∷◌, ◌++◌, Option, Some, None, All, map, sum}
+use Rattle.std.specs.Prelude.{◌≡◌, ℕ, ◌+◌, ◌-◌, ◌^◌, ◌<◌, ◌≤◌, List, [], ◌∷◌, ◌++◌, Option, Some, None, All, length, map, sum, take}
 use Rattle.std.specs.Option.{option_map}
 use Rattle.nvm_model.specs.declared.line.Line.{Line}
 use Rattle.nvm_model.specs.declared.script.Script.{Script}
 use Rattle.nvm_model.specs.World.{Lane, World}
-use Rattle.nvm_model.specs.History.{events_of, Reaches, IsWhole}
+use Rattle.nvm_model.specs.History.{events_of, events_before_resume, Reaches, IsWhole}
 use Rattle.nvm_model.specs.Text.{IsTranscript}
 use Rattle.engine.specs.Built.{IsTaken, Spells}
 
--- What a run that came to its end left, beside the hosts.
+-- What a run left, beside the hosts.
 
--- The script that the input spelled, the lines of the text that the sink took, a whole transcript for the script, and
--- the world that their events reach from the blocks at entry, each legal where it stands.
+-- The script that the input spelled, the lines of a text, a whole transcript for the script, and the world that their
+-- events reach from the source's blocks at entry, each legal where it stands.
 pub record Run (input : Option (List ℕ)) (blocks : List (List ℕ)) (text : List ℕ) : Type 0 where
   pub script : Script
   pub taken : IsTaken script
@@ -21,12 +21,21 @@ pub record Run (input : Option (List ℕ)) (blocks : List (List ℕ)) (text : Li
   pub world : World
   pub legal : Reaches script blocks (events_of lines) world
 
--- There was such a run, of which P holds, where the blocks and the text are told.
-abbrev pub Ran : Option (List ℕ) → Option (List (List ℕ)) → Option (List ℕ) → Option (List ℕ) → (Script → List Line → World → Type 0) → Type 0
-Ran input (Some blocks) (Some before) after P =
-    (text : List ℕ) × (after ≡ Some (before ++ text)) × (run : Run input blocks text) × P run.script run.lines run.world
-Ran input None before after P = Unit {0}
-Ran input (Some blocks) None after P = Unit {0}
+-- The sink took the text of such a run, of which P holds, where both hosts' blocks and the text are told.
+abbrev pub Ran : Option (List ℕ) → Option (List (List ℕ)) → Option (List (List ℕ)) → Option (List ℕ) → Option (List ℕ) → (Script → List (List ℕ) → List Line → World → Type 0) → Type 0
+Ran input (Some blocks) (Some other) (Some before) after P =
+    (text : List ℕ) × (after ≡ Some (before ++ text)) × (run : Run input blocks text) × P run.script blocks run.lines run.world
+Ran input None other before after P = Unit {0}
+Ran input (Some blocks) None before after P = Unit {0}
+Ran input (Some blocks) (Some other) None after P = Unit {0}
+
+-- The sink took a front of the text of such a run.
+abbrev pub Began : Option (List ℕ) → Option (List (List ℕ)) → Option (List (List ℕ)) → Option (List ℕ) → Option (List ℕ) → (Script → List (List ℕ) → List Line → World → Type 0) → Type 0
+Began input (Some blocks) (Some other) (Some before) after P =
+    (text : List ℕ) × (n : ℕ) × (n ≤ length text) × (after ≡ Some (before ++ take n text)) × (run : Run input blocks text) × P run.script blocks run.lines run.world
+Began input None other before after P = Unit {0}
+Began input (Some blocks) None before after P = Unit {0}
+Began input (Some blocks) (Some other) None after P = Unit {0}
 
 -- a namespace's blocks, shelf after shelf, where each shelf's are told
 abbrev pub joined : List (Option (List (List ℕ))) → Option (List (List ℕ))
@@ -38,6 +47,16 @@ joined (Some blocks ∷ shelves) = option_map (λ others. blocks ++ others) (joi
 pub record Holds (shelves : List (Option (List (List ℕ)))) (memory : List (List (List ℕ))) (w : World) : Type 0 where
   pub blocks : joined shelves ≡ Some w.blocks
   pub memory_is : memory ≡ map (λ (l : Lane). l.pages) w.lanes
+
+-- Where the guest was moved, the source holds the world that the events before reach, and the destination holds the
+-- world at the end. Where it wasn't, the source holds it.
+abbrev pub HoldMoved : Option (List Line) → Script → List (List ℕ) → World → List (Option (List (List ℕ))) → List (List (List ℕ)) → List (Option (List (List ℕ))) → List (List (List ℕ)) → Type 0
+HoldMoved None s blocks w from from_memory to to_memory = Holds from from_memory w
+HoldMoved (Some before) s blocks w from from_memory to to_memory = (v : World) × Reaches s blocks before v × Holds from from_memory v × Holds to to_memory w
+
+-- the guest was moved where the lines have `resume to`
+abbrev pub HostsHold : Script → List (List ℕ) → List Line → World → List (Option (List (List ℕ))) → List (List (List ℕ)) → List (Option (List (List ℕ))) → List (List (List ℕ)) → Type 0
+HostsHold s blocks lines w from from_memory to to_memory = HoldMoved (events_before_resume lines) s blocks w from from_memory to to_memory
 
 -- The counts of faults rose by n or more together, as far as they hadn't reached their types' ends.
 abbrev pub RoseBy : ℕ → List ℕ → List ℕ → Type 0

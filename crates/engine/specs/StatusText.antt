@@ -2,7 +2,7 @@ use Rattle.std.specs.Prelude.{ℕ, List, [], ◌++◌, codes, decimal}
 use Rattle.script.specs.declared.refusal.Why.{Why}
 use Rattle.script.specs.declared.refusal.Why.TheVariants.{Form, Range, Cut, More}
 use Rattle.engine.specs.declared.status.Status.{Status}
-use Rattle.engine.specs.declared.status.Status.TheVariants.{Done, Usage, BadScript, TooLong, OutOfMemory, HostSize, ReadFault, WriteFault}
+use Rattle.engine.specs.declared.status.Status.TheVariants.{Done, Usage, BadScript, TooLong, OutOfMemory, HostSize, ReadFault, WriteFault, GaveUp}
 
 -- the exit status of the program
 abbrev pub code_of : Status → ℕ
@@ -14,6 +14,7 @@ code_of OutOfMemory = 3
 code_of (HostSize kept asked) = 4
 code_of ReadFault = 5
 code_of WriteFault = 6
+code_of GaveUp = 7
 
 abbrev pub why_text : Why → List ℕ
 why_text Form = codes ": form\n"
@@ -31,3 +32,4 @@ status_text OutOfMemory = codes "out of memory\n"
 status_text (HostSize kept asked) = codes "host size: kept " ++ decimal kept ++ codes " asked " ++ decimal asked ++ codes "\n"
 status_text ReadFault = codes "read fault\n"
 status_text WriteFault = codes "write fault\n"
+status_text GaveUp = codes "gave up\n"

@@ -1,7 +1,8 @@
 // The script, out of the input.
-ghost use Rattle.std.specs.Prelude.{◌≡◌, ◌≤◌, None, length, IfOk, IfErr, IfSome, IfNone};
+ghost use Rattle.std.specs.Prelude.{◌≡◌, ◌≤◌, true, false, length, IfOk, IfErr, IfSome, IfNone};
+ghost use Rattle.nvm_model.specs.World.{window_pages};
 ghost use Rattle.nvm_model.specs.ScriptText.{script_text};
-ghost use Rattle.engine.specs.Built.{IsTaken, Spells};
+ghost use Rattle.engine.specs.Built.{IsBuilt, IsTaken, Spells};
 ghost use Rattle.engine.specs.Claims.{IsReadRefusal, IsNoScript};
 
 use crate::Status;
@@ -55,8 +56,8 @@ fn take_script(alloc: Global, text: &[u8]) -> Result<Script, Status>
 
 /// The first line of the head that asks for what isn't built yet.
 fn unbuilt_line(head: &Head) -> Option<u32>
-    ensures built { IfNone result ((head.now.shelf ≡ head.now.blocks) × (head.now.lanes ≡ 1) × (head.now.mix ≡ 0) × (head.now.migrate ≡ None)) }
-    ensures unbuilt { IfSome result (λ _. head.now.shelf ≡ head.now.blocks → head.now.lanes ≡ 1 → head.now.mix ≡ 0 → head.now.migrate ≡ None → ⊥) }
+    ensures built { IfNone result (IsBuilt head.now) }
+    ensures unbuilt { IfSome result (λ _. IsBuilt head.now → ⊥) }
 {
     if head.shelf != head.blocks {
         Some(3)
@@ -64,9 +65,21 @@ fn unbuilt_line(head: &Head) -> Option<u32>
         Some(4)
     } else if head.mix != 0 {
         Some(7)
-    } else if head.migrate.is_some() {
+    } else if !moves_suspended(head) {
         Some(13)
     } else {
         None
+    }
+}
+
+/// Whether a migration of the one lane, where the head asks for one, copies everything while the guest is suspended.
+fn moves_suspended(head: &Head) -> bool
+    requires { head.now.lanes ≡ 1 }
+    ensures yes { result ≡ true → IfSome head.now.migrate (λ _. (head.now.small ≡ head.now.blocks) × (window_pages head.now ≤ head.now.pages)) }
+    ensures no { result ≡ false → IfSome head.now.migrate (λ _. (head.now.small ≡ head.now.blocks) × (window_pages head.now ≤ head.now.pages)) → ⊥ }
+{
+    match head.migrate {
+        None => true,
+        Some(_) => head.small == head.blocks && u32::from(head.sets[0].pages) + 2 <= head.pages,
     }
 }

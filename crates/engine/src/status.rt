@@ -26,6 +26,8 @@ pub enum Status {
     ReadFault,
     /// A write of the output failed.
     WriteFault,
+    /// It came to its end, and the migration was given up where a medium failed.
+    GaveUp,
 }
 
 impl Status {
@@ -41,6 +43,7 @@ impl Status {
             Status::HostSize { .. } => 4,
             Status::ReadFault => 5,
             Status::WriteFault => 6,
+            Status::GaveUp => 7,
         }
     }
 
@@ -62,6 +65,7 @@ impl Status {
             Status::HostSize { kept, asked } => write_host_size(kept, asked, sink),
             Status::ReadFault => send(sink, b"read fault\n"),
             Status::WriteFault => send(sink, b"write fault\n"),
+            Status::GaveUp => send(sink, b"gave up\n"),
         }
     }
 }

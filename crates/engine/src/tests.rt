@@ -1,7 +1,7 @@
 use crate::{FreeGate, Status, Why, geometry, nvmigrate};
 use guest_ram::{Host, Ram};
 use mig_base::{BytesSink, BytesSource};
-use mig_medium::{Medium, MemMedium};
+use mig_medium::{Medium, MemMedium, Step};
 use std::alloc::{AllocError, Global};
 use std::process::Abort;
 use std::test::Fail;
@@ -53,19 +53,108 @@ reap 1 1 0 80 1 1
 end
 ";
 
+/// The head of a script without acts that moves its guest before the first turn.
+const MOVE_AT_ONCE: &str = "\
+nvmigrate script 1
+blocks 16
+shelf 16
+lanes 1
+lane 1 sq 2 cq 2 pages 1
+burst 4
+mix 0
+change 4
+slice 4
+small 16
+pages 4
+patience 8
+migrate 1
+";
+
+const MOVED_AT_ONCE: &str = "\
+nvmigrate transcript 1
+ready
+migrate
+suspend
+pause 16 3
+resume to
+end
+";
+
+const GAVE_UP_AT_ONCE: &str = "\
+nvmigrate transcript 1
+ready
+migrate
+suspend
+give up
+end
+";
+
+/// The rest of a head whose guest is moved before the second turn.
+const MOVING_PACE: &str =
+    "burst 4\nmix 0\nchange 4\nslice 4\nsmall 16\npages 4\npatience 8\nmigrate 2\n";
+
+/// A block is written before the move. After it that block is read and another is written, a turn later, since `idle`
+/// ends a turn's acts; and both are verified.
+const MOVING: &str = "\
+1 fill 0 5a
+1 submit 1 write 3 1 0 -
+1 wait
+1 submit 2 read 3 1 1 -
+1 idle
+1 submit 3 write 4 1 0 -
+1 wait
+1 submit 4 verify 3 2 - -
+";
+
+const MOVING_TEXT: &str = "\
+nvmigrate transcript 1
+ready
+act 1 1
+act 1 2
+fetch 1 1 0 00 1
+piece 1 1 3 1 ok
+post 1 1 0 00
+migrate
+suspend
+pause 16 4
+resume to
+reap 1 1 0 00 1 1
+act 1 3
+act 1 4
+act 1 5
+fetch 1 2 0 00 1
+piece 1 2 3 1 ok a863e21577e54cd763729803a621804da4b5030afa35bcf879ea3b3413488a66
+post 1 2 0 00
+reap 1 2 0 00 2 1
+act 1 6
+fetch 1 3 0 00 1
+piece 1 3 4 1 ok
+post 1 3 0 00
+reap 1 3 0 00 3 1
+act 1 7
+act 1 8
+fetch 1 4 0 00 1
+piece 1 4 3 2 ok
+post 1 4 0 00
+reap 1 4 0 00 0 1
+end
+";
+
 /// What a call is given beside its words and its script: the blocks of each shelf of the source, and the numbers of the
-/// reads and the writes that fail.
+/// reads of the input, of the writes of the output, and of the destination's puts that fail.
 #[derive(Clone, Copy)]
 struct Given<'a> {
     shelves: &'a [u32],
     failing_reads: &'a [u64],
     failing_writes: &'a [u64],
+    failing_puts: &'a [u64],
 }
 
 const SOUND: Given<'static> = Given {
     shelves: &[16],
     failing_reads: &[],
     failing_writes: &[],
+    failing_puts: &[],
 };
 
 /// What a call left.
@@ -74,6 +163,7 @@ struct Left {
     status: Status,
     output: BytesSink,
     from: Host<MemMedium>,
+    to: Host<MemMedium>,
 }
 
 fn words(alloc: Global, list: [&str; 4]) -> Result<Vec<String>, AllocError> {
@@ -92,10 +182,12 @@ fn joined(alloc: Global, parts: [&str; 4]) -> Result<Vec<u8>, AllocError> {
     Ok(text)
 }
 
-fn host(alloc: Global, shelves: &[u32]) -> Result<Host<MemMedium>, Fail> {
+/// A host of media that tell traces of at most 64 steps, with the numbers of the puts that fail.
+fn host(alloc: Global, shelves: &[u32], failing_puts: &[u64]) -> Result<Host<MemMedium>, Fail> {
     let mut media = Vec::new(alloc);
     for blocks in shelves {
-        let made = MemMedium::make(alloc, *blocks, 0, Vec::new(alloc), Vec::new(alloc));
+        let puts = failing_puts.to_vec(alloc)?;
+        let made = MemMedium::make(alloc, *blocks, 64, Vec::new(alloc), puts);
         media.push(made.map_err(|_| "no medium")?)?;
     }
     Ok(Host {
@@ -115,8 +207,8 @@ fn called<R: Threads + Sync>(
     let mut input = BytesSource::make(script, 4096, given.failing_reads.to_vec(alloc)?);
     let made = BytesSink::make(alloc, 4096, given.failing_writes.to_vec(alloc)?);
     let mut output = made.map_err(|_| "no sink")?;
-    let mut from = host(alloc, given.shelves)?;
-    let mut to = host(alloc, &[16])?;
+    let mut from = host(alloc, given.shelves, &[])?;
+    let mut to = host(alloc, &[16], given.failing_puts)?;
     let status = nvmigrate(
         rt,
         alloc,
@@ -131,6 +223,7 @@ fn called<R: Threads + Sync>(
         status,
         output,
         from,
+        to,
     })
 }
 
@@ -236,6 +329,73 @@ fn bounds_the_input<R: Threads + Sync + Abort>(rt: &R, alloc: Global) -> Result<
     Ok(())
 }
 
+/// A script without acts is moved, and given up where the destination's third put fails.
+fn moves_at_once<R: Threads + Sync + Abort>(rt: &R, alloc: Global) -> Result<(), Fail> {
+    let script = joined(alloc, [MOVE_AT_ONCE, "end\n", "", ""])?;
+    let left = called(rt, alloc, script.clone()?, SOUND)?;
+    assert!(rt; left.status == Status::Done);
+    assert!(rt; left.output.bytes() == MOVED_AT_ONCE.as_bytes());
+    let failing = Given {
+        failing_puts: &[3],
+        ..SOUND
+    };
+    let left = called(rt, alloc, script, failing)?;
+    assert!(rt; left.status == Status::GaveUp);
+    assert!(rt; left.output.bytes() == GAVE_UP_AT_ONCE.as_bytes());
+    Ok(())
+}
+
+/// The steps of the first shelf's medium.
+fn steps_of(host: &Host<MemMedium>) -> Option<&[Step]> {
+    host.shelves.first()?.trace()
+}
+
+/// A guest goes on at the destination: the whole transcript, what either host holds, and each call of either medium.
+fn moves_a_guest<R: Threads + Sync + Abort>(rt: &R, alloc: Global) -> Result<(), Fail> {
+    let script = joined(alloc, [SIZES, MOVING_PACE, MOVING, "end\n"])?;
+    let mut left = called(rt, alloc, script, SOUND)?;
+    assert!(rt; left.status == Status::Done);
+    assert!(rt; left.output.bytes() == MOVING_TEXT.as_bytes());
+    let mut source = vec![in alloc; Step::Put(3)]?;
+    let mut destination = Vec::new(alloc);
+    for b in 0..16 {
+        source.push(Step::Get(b))?;
+        destination.push(Step::Put(b))?;
+    }
+    for step in [Step::Get(3), Step::Put(4), Step::Get(3), Step::Get(4)] {
+        destination.push(step)?;
+    }
+    assert!(rt; steps_of(&left.from) == Some(source.as_slice()));
+    assert!(rt; steps_of(&left.to) == Some(destination.as_slice()));
+    assert!(rt; block_of(&mut left.from, 3) == Some([0x5a; 512]));
+    assert!(rt; block_of(&mut left.from, 4) == Some([0; 512]));
+    assert!(rt; block_of(&mut left.to, 3) == Some([0x5a; 512]));
+    assert!(rt; block_of(&mut left.to, 4) == Some([0x5a; 512]));
+    Ok(())
+}
+
+/// A head whose migration would take rounds is refused at its line.
+fn refuses_rounds<R: Threads + Sync + Abort>(rt: &R, alloc: Global) -> Result<(), Fail> {
+    let pace = "burst 4\nmix 0\nchange 4\nslice 4\nsmall 15\npages 4\npatience 8\nmigrate 2\n";
+    let script = joined(alloc, [SIZES, pace, MOVING, "end\n"])?;
+    let left = called(rt, alloc, script, SOUND)?;
+    assert!(rt;
+        left.status
+            == Status::BadScript {
+                line: 13,
+                why: Why::Range
+            }
+    );
+    Ok(())
+}
+
+#[test]
+fn moves(rt: HostRuntime) -> Result<(), Fail> {
+    moves_at_once(&rt, rt.alloc())?;
+    moves_a_guest(&rt, rt.alloc())?;
+    refuses_rounds(&rt, rt.alloc())
+}
+
 #[test]
 fn runs(rt: HostRuntime) -> Result<(), Fail> {
     reads_back(&rt, rt.alloc())?;
@@ -269,7 +429,8 @@ fn statuses(rt: HostRuntime) -> Result<(), Fail> {
     told(&rt, rt.alloc(), Status::OutOfMemory, 3, "out of memory\n")?;
     told(&rt, rt.alloc(), size, 4, "host size: kept 8 asked 16\n")?;
     told(&rt, rt.alloc(), Status::ReadFault, 5, "read fault\n")?;
-    told(&rt, rt.alloc(), Status::WriteFault, 6, "write fault\n")
+    told(&rt, rt.alloc(), Status::WriteFault, 6, "write fault\n")?;
+    told(&rt, rt.alloc(), Status::GaveUp, 7, "gave up\n")
 }
 
 #[test]

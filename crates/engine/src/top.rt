@@ -1,17 +1,17 @@
 // The top call.
-ghost use Rattle.std.specs.Prelude.{◌≡◌, ◌+◌, ◌/◌, ◌++◌, ◌∷◌, [], None, Some, Ok, IfOk, IfErr, IfNone, IfSome, OnOk, All, map, string_bytes, vec_capacity, ◌≤◌};
+ghost use Rattle.std.specs.Prelude.{◌≡◌, ◌+◌, ◌/◌, ◌++◌, ◌∷◌, [], None, Some, Ok, IfOk, IfErr, IfNone, IfSome, OnErr, OnOk, All, map, string_bytes, vec_capacity, ◌≤◌};
 ghost use Rattle.mig_base.specs.Count.{HasCause, RisesBy};
-ghost use Rattle.nvm_model.specs.History.{Complete, faults_shown};
+ghost use Rattle.nvm_model.specs.History.{Complete, faults_shown, has_given_up};
 ghost use Rattle.nvm_model.specs.World.{new_lane};
 ghost use Rattle.guest_ram.specs.Ram.{windows_made};
 ghost use Rattle.session.specs.State.{IsLaneOf, IsSound, lane_state};
-ghost use Rattle.engine.specs.Ended.{HasEnded};
+ghost use Rattle.engine.specs.Ended.{HasBroken, HasEnded};
 ghost use Rattle.engine.specs.Room.{IsRoom};
 ghost use Rattle.guest_ram.specs.Window.{data_pages};
 ghost use Rattle.session.specs.Work.{IsSized};
 ghost use Rattle.engine.specs.Built.{IsTaken, Spells};
-ghost use Rattle.engine.specs.Claims.{IsBadScript, IsHostSize, IsLong, IsReadFault, IsRefusal, IsUsage, IsWriteFault, OnDone, OnRefused};
-ghost use Rattle.engine.specs.Headline.{Holds, Ran, RoseBy, joined};
+ghost use Rattle.engine.specs.Claims.{IsBadScript, IsHostSize, IsLong, IsReadFault, IsRefusal, IsUsage, IsWriteFault, OnEnded, OnRefused, OnWriteFault, is_gave_up};
+ghost use Rattle.engine.specs.Headline.{Began, HostsHold, Ran, RoseBy, joined};
 ghost use Rattle.engine.specs.Sizes.{HaveSizes, sizes_of, first_difference};
 ghost use Rattle.engine.specs.Words.{IsForm};
 
@@ -25,7 +25,7 @@ use mig_base::{Failed, Gate, Sink, Source};
 use mig_medium::Medium;
 use nvm_model::Line;
 use script::Script;
-use session::{LaneScript, QueuePair, run};
+use session::{Ending, LaneScript, QueuePair, run};
 use std::alloc::Global;
 use std::thread::Threads;
 
@@ -43,17 +43,26 @@ pub fn nvmigrate<R: Threads + Sync, S: Source, K: Sink, M: Medium + Send, G: Gat
     gate: &G,
 ) -> Status
     // The text is a whole transcript for the script that the input spelled, and its events are a legal history.
-    ensures history { OnDone result (Ran (S.left input.old) (joined (map M.blocks from.old.shelves.items)) (K.bytes output.old) (K.bytes output.new)
-        (λ script lines world. Unit {0})) }
+    ensures history { OnEnded result (Ran (S.left input.old) (joined (map M.blocks from.old.shelves.items)) (joined (map M.blocks to.old.shelves.items)) (K.bytes output.old) (K.bytes output.new)
+        (λ script blocks lines world. Unit {0})) }
     // Each guest did its acts, and each of its commands was fetched, done, posted and reaped.
-    ensures complete { OnDone result (Ran (S.left input.old) (joined (map M.blocks from.old.shelves.items)) (K.bytes output.old) (K.bytes output.new)
-        (λ script lines world. Complete script world)) }
-    // The source holds the blocks and the data pages of the world that the history reaches.
-    ensures hosts { OnDone result (Ran (S.left input.old) (joined (map M.blocks from.old.shelves.items)) (K.bytes output.old) (K.bytes output.new)
-        (λ script lines world. Holds (map M.blocks from.new.shelves.items) (map data_pages from.new.ram) world)) }
-    // Each fault that a line shows has a failed call of a medium.
-    ensures faults { OnDone result (Ran (S.left input.old) (joined (map M.blocks from.old.shelves.items)) (K.bytes output.old) (K.bytes output.new)
-        (λ script lines world. RoseBy (faults_shown lines)
+    ensures complete { OnEnded result (Ran (S.left input.old) (joined (map M.blocks from.old.shelves.items)) (joined (map M.blocks to.old.shelves.items)) (K.bytes output.old) (K.bytes output.new)
+        (λ script blocks lines world. Complete script world)) }
+    // Where the guest was moved, the source holds the blocks and the data pages of the world then, and the destination
+    // those of the world at the end. Where it wasn't, the source holds these.
+    ensures hosts { OnEnded result (Ran (S.left input.old) (joined (map M.blocks from.old.shelves.items)) (joined (map M.blocks to.old.shelves.items)) (K.bytes output.old) (K.bytes output.new)
+        (λ script blocks lines world. HostsHold script blocks lines world
+        (map M.blocks from.new.shelves.items) (map data_pages from.new.ram) (map M.blocks to.new.shelves.items) (map data_pages to.new.ram))) }
+    // Each fault that a line shows, and a migration that was given up, has a failed call of a medium.
+    ensures faults { OnEnded result (Ran (S.left input.old) (joined (map M.blocks from.old.shelves.items)) (joined (map M.blocks to.old.shelves.items)) (K.bytes output.old) (K.bytes output.new)
+        (λ script blocks lines world. RoseBy (faults_shown lines)
+        (map M.faults from.old.shelves.items ++ map M.faults to.old.shelves.items) (map M.faults from.new.shelves.items ++ map M.faults to.new.shelves.items))) }
+    // The answer says that the migration was given up exactly where the text does.
+    ensures gave_up { OnEnded result (Ran (S.left input.old) (joined (map M.blocks from.old.shelves.items)) (joined (map M.blocks to.old.shelves.items)) (K.bytes output.old) (K.bytes output.new)
+        (λ script blocks lines world. has_given_up lines ≡ is_gave_up result)) }
+    // Where the output failed, a front of the text of such a run was written.
+    ensures sink { OnWriteFault result (Began (S.left input.old) (joined (map M.blocks from.old.shelves.items)) (joined (map M.blocks to.old.shelves.items)) (K.bytes output.old) (K.bytes output.new)
+        (λ script blocks lines world. Complete script world × RoseBy (faults_shown lines)
         (map M.faults from.old.shelves.items ++ map M.faults to.old.shelves.items) (map M.faults from.new.shelves.items ++ map M.faults to.new.shelves.items))) }
     ensures before_run { OnRefused result ((K.bytes output.new ≡ K.bytes output.old)
         × (map M.blocks from.new.shelves.items ≡ map M.blocks from.old.shelves.items) × (map M.blocks to.new.shelves.items ≡ map M.blocks to.old.shelves.items)) }
@@ -69,7 +78,8 @@ pub fn nvmigrate<R: Threads + Sync, S: Source, K: Sink, M: Medium + Send, G: Gat
         Err(status) => return status,
     };
     match run_hosts(&script, room, output, from, to) {
-        Ok(()) => Status::Done,
+        Ok(Ending::Done) => Status::Done,
+        Ok(Ending::GaveUp) => Status::GaveUp,
         Err(Failed) => Status::WriteFault,
     }
 }
@@ -88,6 +98,7 @@ fn prepare<S: Source, M: Medium>(
     ensures room { IfOk result (λ r. IsRoom r.0 r.1) }
     ensures sizes { IfOk result (λ r. HaveSizes r.0 (map M.size from.now.shelves.items) (map M.size to.now.shelves.items)) }
     ensures sized { IfOk result (λ r. All (λ m. IsSized (M.blocks m) (M.size m)) from.now.shelves.items) }
+    ensures to_sized { IfOk result (λ r. All (λ m. IsSized (M.blocks m) (M.size m)) to.now.shelves.items) }
     ensures refusal { IfErr result (IsRefusal (map string_bytes words.now) (S.left input.old) (S.faults input.old) (S.faults input.new)
         (map M.size from.now.shelves.items) (map M.size to.now.shelves.items)) }
 {
@@ -114,6 +125,7 @@ fn hosts_difference<M: Medium>(script: &Script, from: &Host<M>, to: &Host<M>) ->
     ensures first { result ≡ first_difference (sizes_of (map M.size from.now.shelves.items) (script.now.head.blocks / script.now.head.shelf) script.now.head.shelf
         ++ sizes_of (map M.size to.now.shelves.items) (script.now.head.blocks / script.now.head.shelf) script.now.head.shelf) }
     ensures sized { IfNone result (All (λ m. IsSized (M.blocks m) (M.size m)) from.now.shelves.items) }
+    ensures to_sized { IfNone result (All (λ m. IsSized (M.blocks m) (M.size m)) to.now.shelves.items) }
 {
     let shelf = u64::from(script.head.shelf);
     let count = u64::from(script.head.blocks) / shelf;
@@ -123,21 +135,31 @@ fn hosts_difference<M: Medium>(script: &Script, from: &Host<M>, to: &Host<M>) ->
     }
 }
 
-/// Runs the script over the source, from the first line to the last. Both hosts get their guests' memory.
+/// Runs the script over the hosts, from the first line to the last. Both hosts get their guests' memory.
 fn run_hosts<K: Sink, M: Medium>(
     script: &Script,
     room: Room,
     output: &mut K,
     from: &mut Host<M>,
     to: &mut Host<M>,
-) -> Result<(), Failed>
+) -> Result<Ending, Failed>
     requires taken { IsTaken script.now }
     requires room { IsRoom script.now room }
     requires sizes { HaveSizes script.now (map M.size from.old.shelves.items) (map M.size to.old.shelves.items) }
     requires sized { All (λ m. IsSized (M.blocks m) (M.size m)) from.old.shelves.items }
-    ensures ran { OnOk result (HasEnded script.now (map M.blocks from.old.shelves.items) (map M.faults from.old.shelves.items) (K.bytes output.old)
-        (map M.blocks from.new.shelves.items) (map M.faults from.new.shelves.items) (map data_pages from.new.ram) (K.bytes output.new)) }
-    ensures other { to.new.shelves ≡ to.old.shelves }
+    requires to_sized { All (λ m. IsSized (M.blocks m) (M.size m)) to.old.shelves.items }
+    ensures ran { IfOk result (λ ending. HasEnded script.now ending
+        (record { shelves = map M.blocks from.old.shelves.items; faults = map M.faults from.old.shelves.items })
+        (record { shelves = map M.blocks to.old.shelves.items; faults = map M.faults to.old.shelves.items }) (K.bytes output.old)
+        (record { shelves = map M.blocks from.new.shelves.items; faults = map M.faults from.new.shelves.items })
+        (record { shelves = map M.blocks to.new.shelves.items; faults = map M.faults to.new.shelves.items })
+        (map data_pages from.new.ram) (map data_pages to.new.ram) (K.bytes output.new)) }
+    ensures broken { OnErr result (HasBroken script.now
+        (record { shelves = map M.blocks from.old.shelves.items; faults = map M.faults from.old.shelves.items })
+        (record { shelves = map M.blocks to.old.shelves.items; faults = map M.faults to.old.shelves.items }) (K.bytes output.old)
+        (record { shelves = map M.blocks from.new.shelves.items; faults = map M.faults from.new.shelves.items })
+        (record { shelves = map M.blocks to.new.shelves.items; faults = map M.faults to.new.shelves.items })
+        (map data_pages from.new.ram) (map data_pages to.new.ram) (K.bytes output.new)) }
     ensures cause { HasCause (K.faults output.old) (K.faults output.new) result }
 {
     let Room {
@@ -156,42 +178,57 @@ fn run_hosts<K: Sink, M: Medium>(
         &mut events,
         &mut from.ram,
         from.shelves.as_mut_slice(),
+        &mut to.ram,
+        to.shelves.as_mut_slice(),
         output,
-    )?;
-    Ok(())
+    )
 }
 
-/// Runs the script's one lane over its one shelf.
+/// Runs the script's one lane over the hosts' one shelf.
 fn run_lane<K: Sink, M: Medium>(
     script: &Script,
     lane: &LaneScript,
     pair: &mut QueuePair,
     events: &mut Vec<Line>,
-    ram: &mut Ram,
-    shelves: &mut [M],
+    from_ram: &mut Ram,
+    from: &mut [M],
+    to_ram: &mut Ram,
+    to: &mut [M],
     output: &mut K,
-) -> Result<(), Failed>
+) -> Result<Ending, Failed>
     requires taken { IsTaken script.now }
     requires lane { (lane.now.lane ≡ 1) × IsLaneOf script.now lane.now }
     requires sound { IsSound lane.now script.now.head.burst pair.old }
     requires new { lane_state [] pair.old ≡ new_lane 0 }
     requires room { 512 ≤ vec_capacity events.old }
-    requires ram { ram.old ≡ windows_made 1 (lane.now.set.pages ∷ []) }
-    requires one { map M.size shelves.old ≡ script.now.head.blocks ∷ [] }
-    requires sized { All (λ m. IsSized (M.blocks m) (M.size m)) shelves.old }
-    ensures ran { OnOk result (HasEnded script.now (map M.blocks shelves.old) (map M.faults shelves.old) (K.bytes output.old)
-        (map M.blocks shelves.new) (map M.faults shelves.new) (map data_pages ram.new) (K.bytes output.new)) }
+    requires from_ram { from_ram.old ≡ windows_made 1 (lane.now.set.pages ∷ []) }
+    requires to_ram { to_ram.old ≡ windows_made 1 (lane.now.set.pages ∷ []) }
+    requires one { map M.size from.old ≡ script.now.head.blocks ∷ [] }
+    requires to_one { map M.size to.old ≡ script.now.head.blocks ∷ [] }
+    requires sized { All (λ m. IsSized (M.blocks m) (M.size m)) from.old }
+    requires to_sized { All (λ m. IsSized (M.blocks m) (M.size m)) to.old }
+    ensures ran { IfOk result (λ ending. HasEnded script.now ending
+        (record { shelves = map M.blocks from.old; faults = map M.faults from.old }) (record { shelves = map M.blocks to.old; faults = map M.faults to.old }) (K.bytes output.old)
+        (record { shelves = map M.blocks from.new; faults = map M.faults from.new }) (record { shelves = map M.blocks to.new; faults = map M.faults to.new })
+        (map data_pages from_ram.new) (map data_pages to_ram.new) (K.bytes output.new)) }
+    ensures broken { OnErr result (HasBroken script.now
+        (record { shelves = map M.blocks from.old; faults = map M.faults from.old }) (record { shelves = map M.blocks to.old; faults = map M.faults to.old }) (K.bytes output.old)
+        (record { shelves = map M.blocks from.new; faults = map M.faults from.new }) (record { shelves = map M.blocks to.new; faults = map M.faults to.new })
+        (map data_pages from_ram.new) (map data_pages to_ram.new) (K.bytes output.new)) }
     ensures cause { HasCause (K.faults output.old) (K.faults output.new) result }
 {
-    let windows = ram.windows();
-    run(
+    match run(
         script,
         lane,
-        &mut windows[0],
         pair,
-        &mut shelves[0],
         events,
+        from_ram,
+        &mut from[0],
+        to_ram,
+        &mut to[0],
         output,
-    )?;
-    Ok(())
+    ) {
+        Ok(ending) => Ok(ending),
+        Err(Failed) => Err(Failed),
+    }
 }

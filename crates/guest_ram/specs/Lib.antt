@@ -1,5 +1,6 @@
 pub mod Window
 pub mod Span
 pub mod Ram
+pub mod Place
 pub mod Lending
 pub mod Held

@@ -1,10 +1,14 @@
-ghost use Rattle.std.specs.Prelude.{◌≡◌, ◌-◌, ◌≤◌, List, [], IfOk, length, slice_index_or};
+ghost use Rattle.std.specs.Prelude.{◌≡◌, ◌-◌, ◌<◌, ◌≤◌, List, [], IfOk, length, slice_index_or, slice_set};
 ghost use Rattle.std.specs.List.{All};
 ghost use Rattle.std.specs.Borrow.{sem};
-ghost use Rattle.guest_ram.specs.Ram.{windows_made};
+ghost use Rattle.nvm_model.specs.Memory.{page_at};
+ghost use Rattle.guest_ram.specs.Ram.{windows_made, all_pages, shape};
+
+mod place;
 
 use crate::Window;
 use mig_base::{LaneNo, OutOfMemory};
+use place::place_of;
 use std::alloc::Global;
 use std::marker::Model;
 
@@ -15,13 +19,15 @@ pub struct Ram {
 }
 
 impl Model for Ram {
-    ghost use Rattle.std.specs.Prelude.{List};
+    ghost use Rattle.std.specs.Prelude.{List, ◌≤◌, length};
     ghost use Rattle.guest_ram.specs.Window.{WindowState};
     ghost use Rattle.guest_ram.specs.Held.{held};
 
     ghost Value = { List WindowState };
 
     ghost view = { λ r. held r.windows };
+
+    ghost invariant = { λ r. length (held r.windows) ≤ 8 };
 }
 
 impl Ram {
@@ -73,6 +79,46 @@ impl Ram {
         match &self.windows {
             Some(windows) => &windows[usize::from(lane.get()) - 1],
             None => unreachable!(),
+        }
+    }
+
+    /// The number of window pages of all lanes.
+    pub fn page_count(&self) -> u32
+        ensures { result ≡ length (all_pages self.now) }
+    {
+        let windows = self.as_slice();
+        let mut count = 0;
+        for window in windows {
+            count += window.page_count();
+        }
+        count
+    }
+
+    /// Copies a window page to the page of the same number of another memory. Numbers count over all lanes: the window
+    /// pages of lane 1, then those of lane 2, and so on, from 0. Both have the page.
+    pub fn copy_page(&self, page: u32, to: &mut Ram)
+        requires from { page < length (all_pages self.now) }
+        requires to { page < length (all_pages to.old) }
+        ensures pages { all_pages to.new
+            ≡ slice_set (all_pages to.old) page (page_at (all_pages self.now) page) }
+        ensures shape { shape to.new ≡ shape to.old }
+    {
+        let windows = self.as_slice();
+        let source = place_of(windows, page);
+        let target = place_of(to.as_slice(), page);
+        let bytes = windows[source.window].page(source.page);
+        let window = &mut to.windows()[target.window];
+        window.put_page(target.page, bytes);
+    }
+
+    // The windows, lane 1's first.
+    fn as_slice(&self) -> &[Window]
+        ensures value { result.now ≡ self.now }
+        ensures few { length self.now ≤ 8 }
+    {
+        match &self.windows {
+            Some(windows) => windows.as_slice(),
+            None => &[],
         }
     }
 }

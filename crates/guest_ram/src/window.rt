@@ -1,4 +1,4 @@
-ghost use Rattle.std.specs.Prelude.{◌≡◌, ◌+◌, ◌-◌, ◌<◌, ◌≤◌, List, IfOk, length, replicate};
+ghost use Rattle.std.specs.Prelude.{◌≡◌, ◌+◌, ◌-◌, ◌<◌, ◌≤◌, List, IfOk, length, replicate, slice_set};
 ghost use Rattle.nvm_model.specs.Memory.{page_at, with_bytes, zero_page};
 ghost use Rattle.guest_ram.specs.Window.{data_pages};
 
@@ -49,6 +49,14 @@ impl Window {
         Ok(Window { lane, pages })
     }
 
+    // The number of window pages.
+    pub(crate) fn page_count(&self) -> u32
+        ensures value { result ≡ length self.now.pages }
+        ensures few { result ≤ 258 }
+    {
+        self.pages.len() as u32
+    }
+
     /// The bytes of window page `j`, from 0, which is there.
     pub fn page(&self, j: u16) -> &[u8; 4096]
         requires { j < length self.now.pages }
@@ -56,6 +64,16 @@ impl Window {
         ensures data { 2 ≤ j → result.now ≡ page_at (data_pages self.now) (j - 2) }
     {
         &self.pages[usize::from(j)]
+    }
+
+    // Window page `j`, which is there, becomes these bytes.
+    pub(crate) fn put_page(&mut self, j: u16, bytes: &[u8; 4096])
+        requires { j < length self.old.pages }
+        ensures pages { self.new.pages ≡ slice_set self.old.pages j bytes.now }
+        ensures lane { self.new.lane ≡ self.old.lane }
+    {
+        let page = &mut self.pages[usize::from(j)];
+        page.copy_from_slice(bytes);
     }
 
     /// The guest writes `bytes` into window page `j`, from byte `at` of it on. They lie in the page.

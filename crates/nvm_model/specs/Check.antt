@@ -1,9 +1,8 @@
-use Rattle.std.specs.Prelude.{ℕ, zero, suc, ◌+◌, ◌-◌, ◌*◌, ◌/◌, ◌%◌, Bool, true, false, not, ◌&&◌, ◌||◌, ◌==◌, nat_lt, nat_le, if◌then◌else◌, List, [], ◌∷◌, ◌++◌, Option, Some, None, Result, Ok, Err, is_err, is_none, length, take, drop, replicate}
+use Rattle.std.specs.Prelude.{ℕ, zero, suc, ◌+◌, ◌-◌, ◌*◌, ◌/◌, ◌%◌, Bool, false, not, ◌&&◌, ◌||◌, ◌==◌, nat_lt, nat_le, if◌then◌else◌, List, [], ◌∷◌, ◌++◌, Option, Some, None, Result, Ok, Err, is_err, is_none, length, take, drop, replicate}
 use Rattle.std.specs.List.{list_any}
 use Rattle.std.specs.Int.{w64, from_le_bytes}
 use Rattle.nvm_values.specs.declared.sqe.Sqe.{Sqe}
 use Rattle.nvm_values.specs.declared.op.Op.{Op}
-use Rattle.nvm_values.specs.declared.op.Op.TheVariants.{Flush, Write, Read, Compare, WriteZeroes, Verify}
 use Rattle.nvm_values.specs.Op.{op_of, moves_data}
 use Rattle.nvm_values.specs.Sqe.{fuse_of, psdt_of, slba_of, count_of}
 use Rattle.nvm_values.specs.Status.{StatusPair, success, invalid_opcode, invalid_field, id_conflict, invalid_namespace, out_of_range}

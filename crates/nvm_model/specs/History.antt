@@ -1,4 +1,5 @@
 use Rattle.std.specs.Prelude.{◌≡◌, ℕ, Bool, true, false, List, [], ◌∷◌, ◌++◌, Option, Some, None, IsTrue, length, filter, count_by}
+use Rattle.std.specs.List.{list_any}
 use Rattle.std.specs.Option.{option_map}
 use Rattle.nvm_model.specs.declared.command.Outcome.{Outcome}
 use Rattle.nvm_model.specs.declared.command.Outcome.TheVariants.{Done, Faulted, Differs}
@@ -105,6 +106,14 @@ lines_before_resume (l ∷ lines) = option_map (λ before. l ∷ before) (lines_
 -- the events before that: the moved point
 abbrev pub events_before_resume : List Line → Option (List Line)
 events_before_resume lines = option_map events_of (lines_before_resume lines)
+
+-- whether a migration was given up
+abbrev pub is_give_up : Line → Bool
+is_give_up line.GiveUp = true
+is_give_up _ = false
+
+abbrev pub has_given_up : List Line → Bool
+has_given_up lines = list_any is_give_up lines
 
 -- how many lines show a fault: pieces that a failed call of a medium stopped, and migrations that were given up
 abbrev pub is_faulted : Outcome → Bool

@@ -1,4 +1,4 @@
-use Rattle.std.specs.Prelude.{◌≡◌, ℕ, ◌-◌, ◌≤◌, List, [], length, take, map, filter, replicate, slice_index_or, ◌==◌}
+use Rattle.std.specs.Prelude.{◌≡◌, ℕ, ◌+◌, ◌-◌, ◌≤◌, List, [], length, take, map, filter, replicate, sum, slice_index_or, ◌==◌}
 use Rattle.nvm_values.specs.declared.sqe.Sqe.{Sqe}
 use Rattle.nvm_model.specs.declared.command.Command.{Command}
 use Rattle.nvm_model.specs.declared.command.Completion.{Completion}
@@ -47,6 +47,10 @@ lane_of w k = slice_index_or w.lanes (k - 1) (new_lane 0)
 -- the sizes that a script gives a lane
 abbrev pub set_of : Head → ℕ → LaneSet
 set_of head k = slice_index_or head.sets (k - 1) (record { sq = 0; cq = 0; pages = 0 })
+
+-- the window pages of all lanes: two for the queues of each, and its data pages
+abbrev pub window_pages : Head → ℕ
+window_pages head = sum (map (λ (set : LaneSet). set.pages + 2) (take head.lanes head.sets))
 
 -- the acts of one lane, in the script's order
 abbrev pub acts_of : ℕ → List (ℕ × Act) → List Act

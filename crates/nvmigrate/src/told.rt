@@ -5,9 +5,11 @@ nvmigrate: a software NVMe controller whose runs are proved to be legal historie
 
 nvmigrate run serial BLOCKS SHELF
     reads a script from standard input, runs its guest on one thread over
-    BLOCKS blocks of 512 zero bytes, in shelves of SHELF blocks, and writes
-    the transcript to standard output. BLOCKS is from 1 to 131072, SHELF from
-    1 to 65536, SHELF divides BLOCKS, and there are at most 64 shelves.
+    two hosts, each with BLOCKS blocks of 512 zero bytes in shelves of SHELF
+    blocks, moves it from one to the other where the script asks for that,
+    and writes the transcript to standard output. BLOCKS is from 1 to 131072,
+    SHELF from 1 to 65536, SHELF divides BLOCKS, and there are at most 64
+    shelves.
 nvmigrate --help
     writes this text.
 nvmigrate --version
@@ -21,6 +23,7 @@ exit status
     4  a host differs from the script
     5  a read of standard input failed
     6  a write of standard output failed
+    7  the migration was given up where a medium failed, and the source went on
 ";
 
 const VERSION: &str = "nvmigrate 0.1.0\n";

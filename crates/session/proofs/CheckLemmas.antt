@@ -1,15 +1,13 @@
-use Rattle.std.proofs.Common.{◌≡◌, ◌==◌, ℕ, ◌+◌, ◌<◌, ◌≤◌, Bool, true, false, cond, List, [], ◌∷◌, ◌++◌, Option, Some, None, refl, sym, ap, ◌∙◌, arith, rules, ltb}
+use Rattle.std.proofs.Common.{◌≡◌, ◌==◌, ℕ, ◌+◌, Bool, true, false, cond, List, [], ◌∷◌, ◌++◌, Option, Some, None, refl, sym, ap, ◌∙◌, arith, ltb}
 use Rattle.std.specs.Option.{is_none, IsSomeAnd}
 use Rattle.std.proofs.lemmas.Bool.{false≢true}
 use Rattle.std.proofs.lemmas.Bool.Decides.{nat_tests}
-use Rattle.nvm_values.specs.declared.op.Op.{Op}
 use Rattle.nvm_values.specs.declared.op.Op.TheVariants.{Flush, Write, Read, Compare, WriteZeroes, Verify}
 use Rattle.nvm_values.specs.declared.sqe.Sqe.{Sqe}
-use Rattle.nvm_values.specs.Op.{op_of}
 use Rattle.nvm_values.specs.Sqe.{slba_of, count_of}
 use Rattle.nvm_values.specs.Status.{StatusPair, invalid_field}
 use Rattle.nvm_model.specs.declared.command.Command.{Command}
-use Rattle.nvm_model.specs.Check.{first_holding, decision, fetched_command, checked_command, has_attributes, is_in_use, is_unknown, has_other_namespace, is_flush, is_too_long, is_out_of_range, has_bad_pages}
+use Rattle.nvm_model.specs.Check.{first_holding, decision, fetched_command, checked_command, is_unknown, is_flush, has_bad_pages}
 use Rattle.session.specs.Check.{early_tests, early_decision, HasPassed, late_command}
 
 abbrev or_else : Option StatusPair → Option StatusPair → Option StatusPair

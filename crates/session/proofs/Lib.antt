@@ -1,7 +1,10 @@
 pub mod CheckLemmas
+pub mod CopyLemmas
 pub mod GoesLemmas
 pub mod LaneLemmas
 pub mod PieceLemmas
+pub mod RangeLemmas
+pub mod RestLemmas
 pub mod RunLemmas
 pub mod TextLemmas
 pub mod WorkLemmas

@@ -1,8 +1,8 @@
-use Rattle.std.proofs.Common.{◌≡◌, ℕ, zero, suc, ◌+◌, ◌<◌, ◌≤◌, List, [], ◌∷◌, ◌++◌, Option, Some, None, length, take, drop, get_or, refl, sym, ap, subst, ◌∙◌, arith, add-one}
+use Rattle.std.proofs.Common.{◌≡◌, ℕ, zero, suc, ◌+◌, ◌<◌, List, [], ◌++◌, Option, Some, None, length, take, drop, get_or, refl, sym, ap, subst, ◌∙◌, arith, add-one}
 use Rattle.std.specs.List.{flat_map}
 use Rattle.std.proofs.lemmas.List.{length-set, length-drop, take_more, get_or-drop, flat_map_more}
-use Rattle.nvm_model.specs.Piece.{put_blocks, read_blocks, bytes_of, block_at, page_of, place_of, data_block, MovesTo, ComparesTo, done_blocks}
-use Rattle.session.specs.Work.{IsSized, IsDone, IsToldDone, EqualsAt, put_told}
+use Rattle.nvm_model.specs.Piece.{put_blocks, read_blocks, bytes_of, block_at, page_of, place_of, data_block, MovesTo, done_blocks}
+use Rattle.session.specs.Work.{IsSized, IsToldDone, put_told}
 use Rattle.std.specs.Option.{IfSome}
 use Rattle.nvm_values.specs.declared.op.Op.TheVariants.{Write}
 use Rattle.nvm_model.specs.declared.command.Outcome.{Outcome}

@@ -1,74 +1,438 @@
-use Rattle.std.proofs.Common.{◌≡◌, ℕ, ◌+◌, ◌≤◌, List, [], ◌∷◌, ◌++◌, Option, All, refl, sym, ap, subst, ◌∙◌, append_assoc, arith, cond}
-use Rattle.std.proofs.lemmas.Grind.{flat_map-append}
+use Rattle.std.proofs.Common.{◌≡◌, ℕ, ◌+◌, ◌≤◌, Bool, true, false, cond, List, [], ◌∷◌, ◌++◌, Option, Some, None, All, length, refl, sym, ap, subst, ◌∙◌, append_assoc, append-nil, arith}
 use Rattle.std.proofs.lemmas.List.Sums.{sum_by-append}
-use Rattle.std.proofs.lemmas.List.Elements.{All-append}
+use Rattle.std.specs.List.{AllByRecursion}
 use Rattle.mig_base.specs.Stream.{with_more}
 use Rattle.nvm_model.specs.declared.line.Line.{Line}
 use Rattle.nvm_model.specs.declared.line.Line.TheVariants as line
+use Rattle.nvm_model.specs.declared.script.Act.{Act}
+use Rattle.nvm_model.specs.declared.script.LaneSet.{LaneSet}
 use Rattle.nvm_model.specs.declared.script.Script.{Script}
 use Rattle.nvm_model.specs.History.{faults_shown, shows_fault}
-use Rattle.nvm_model.specs.Text.{line_text, text_of, IsLine, HasForm}
-use Rattle.nvm_model.specs.World.{Lane, IsQuiet}
-use Rattle.session.specs.Goes.{Goes}
-use Rattle.session.specs.Run.{HasTurned, HasRun}
-use Rattle.session.proofs.GoesLemmas.{told_more, rises_more, told_none}
-use Rattle.session.proofs.TextLemmas.{with_more_more}
+use Rattle.nvm_model.specs.ScriptText.{IsHead, IsSet, IsAct}
+use Rattle.nvm_model.specs.Text.{IsLine, text_of, line_text}
+use Rattle.nvm_model.specs.World.{Lane, IsQuiet, acts_of, set_of, new_lane}
+use Rattle.session.specs.declared.ending.Ending.{Ending}
+use Rattle.session.specs.declared.ending.Ending.TheVariants.{Done, GaveUp}
+use Rattle.session.specs.declared.lane_script.LaneScript.{LaneScript}
+use Rattle.session.specs.declared.queue_pair.QueuePair.{QueuePair}
+use Rattle.session.specs.Goes.{LaneSteps, Goes}
+use Rattle.session.specs.Range.{IsInRange}
+use Rattle.session.specs.Rest.{CanEnd}
+use Rattle.session.specs.Run.{HasTurned, moving_lines, AreMoving, WholeRun, body_of, SidesHold, RoseTogether, HasMoved, HasRun, HasStopped, IfTold, framed, unframed}
+use Rattle.session.specs.Side.{AreCopied}
+use Rattle.session.specs.State.{lane_state, IsLaneOf, IsSound, IsPairComplete}
+use Rattle.session.specs.Work.{IsSized}
+use Rattle.session.specs.Written.{IsCut, IsWritten}
+use Rattle.session.proofs.CopyLemmas.{all_copied}
+use Rattle.session.proofs.GoesLemmas.{told_more, rises_more, told_none, steps_more}
+use Rattle.session.proofs.RangeLemmas.{new_in_range, lines_in_range}
+use Rattle.session.proofs.RestLemmas.{can_end, is_served, at_rest}
+use Rattle.session.proofs.TextLemmas.{lines_more, lines_cut_longer, lines_cut_after}
+
+-- Turns, one after another.
+
+faults_more : (a b : List Line) → faults_shown (a ++ b) ≡ faults_shown a + faults_shown b
+faults_more a b = sum_by-append (λ (l : Line). cond (shows_fault l) 1 0) a b
 
 -- no turn yet
-pub turned_none : (s : Script) (k : ℕ) (told : Option (List (List ℕ))) (faults : ℕ) (lane : Lane) (bytes : Option (List ℕ)) → bytes ≡ with_more [] bytes → HasTurned s k told faults lane bytes told faults lane bytes
-turned_none s k told faults lane bytes same = record {
+pub turned_none : (s : Script) (k : ℕ) (told : Option (List (List ℕ))) (faults : ℕ) (lane : Lane) (bytes : Option (List ℕ)) → HasTurned true s k told faults lane bytes told faults lane bytes
+turned_none s k told faults lane bytes = record {
   events = [];
-  text = same;
-  form = λ i d h. absurd (omega arith);
+  text = nothing_more bytes;
   steps = told_none s k told lane;
   causes = omega arith;
   later = omega arith;
 }
+  where
+    nothing_more : (b : Option (List ℕ)) → b ≡ with_more [] b
+    nothing_more None = refl
+    nothing_more (Some taken) = ap (λ (t : List ℕ). Some t) (sym (append-nil taken))
 
--- one turn more, whose lines were written
-pub turned_more : {s : Script} {k : ℕ} {a : Option (List (List ℕ))} {f : ℕ} {lane : Lane} {start_bytes : Option (List ℕ)} {b : Option (List (List ℕ))} {g : ℕ} {mid : Lane} {bytes : Option (List ℕ)} {c : Option (List (List ℕ))} {h : ℕ} {new : Lane} {events : List Line} {new_bytes : Option (List ℕ)} →
-    HasTurned s k a f lane start_bytes b g mid bytes → Goes s k b g mid [] c h new events → new_bytes ≡ with_more (text_of events) bytes → All (λ (l : Line). HasForm l → IsLine l) events →
-    HasTurned s k a f lane start_bytes c h new new_bytes
-turned_more {s} {k} {a} {f} {lane} {start_bytes} {b} {g} {mid} {bytes} {c} {h} {new} {events} {new_bytes} x y written form =
-    let added : y.added ≡ events = sym y.events_are in
+-- the lines of a turn, all or a front of them
+written_after : (whole : Bool) (a b : List Line) (before mid after : Option (List ℕ)) → mid ≡ with_more (text_of a) before → IsWritten whole (text_of b) mid after → IsWritten whole (text_of (a ++ b)) before after
+written_after true a b before mid after first second = lines_more a b before mid after first second
+written_after false a b before mid after first second = lines_cut_after a b before mid after first second
+
+pub turn_written : {whole : Bool} {s : Script} {k : ℕ} {told : Option (List (List ℕ))} {faults : ℕ} {lane : Lane} {new_told : Option (List (List ℕ))} {new_faults : ℕ} {new : Lane} {events : List Line} {bytes new_bytes : Option (List ℕ)} →
+    Goes s k told faults lane [] new_told new_faults new events → IsWritten whole (text_of events) bytes new_bytes → HasTurned whole s k told faults lane bytes new_told new_faults new new_bytes
+turn_written {whole} {bytes} {new_bytes} goes written = record {
+  events = goes.added;
+  text = subst (λ (es : List Line). IsWritten whole (text_of es) bytes new_bytes) goes.events_are written;
+  steps = goes.steps;
+  causes = goes.causes;
+  later = goes.later;
+}
+
+-- one turn more
+pub turned_more : {whole : Bool} {s : Script} {k : ℕ} {a : Option (List (List ℕ))} {f : ℕ} {lane : Lane} {start_bytes : Option (List ℕ)} {b : Option (List (List ℕ))} {g : ℕ} {mid : Lane} {bytes : Option (List ℕ)} {c : Option (List (List ℕ))} {h : ℕ} {new : Lane} {new_bytes : Option (List ℕ)} →
+    HasTurned true s k a f lane start_bytes b g mid bytes → HasTurned whole s k b g mid bytes c h new new_bytes → HasTurned whole s k a f lane start_bytes c h new new_bytes
+turned_more {whole} {s} {k} {a} {f} {lane} {start_bytes} {b} {g} {mid} {bytes} {c} {h} {new} {new_bytes} x y = record {
+  events = x.events ++ y.events;
+  text = written_after whole x.events y.events start_bytes bytes new_bytes x.text y.text;
+  steps = told_more s k x.events y.events a lane b mid c new x.steps y.steps;
+  causes = rw (faults_more x.events y.events) (rises_more (faults_shown x.events) (faults_shown y.events) f g h x.causes y.causes);
+  later = omega (arith, x.later, y.later);
+}
+
+-- The end of a lane's run.
+
+-- between two turns
+pub record Between (s : Script) (ls : LaneScript) (pair : QueuePair) : Type 0 where
+  pub head : IsHead s.head
+  pub shelf : s.head.shelf ≡ s.head.blocks
+  pub lane : IsLaneOf s ls
+  pub sound : IsSound ls s.head.burst pair
+  pub none : pair.running.items ≡ []
+
+-- its run can be brought to its end
+pub goes_to_end : (s : Script) (ls : LaneScript) (pair : QueuePair) (memory : List (List ℕ)) → Between s ls pair → (blocks : List (List ℕ)) → CanEnd s ls.lane blocks (lane_state memory pair)
+goes_to_end s ls pair memory between blocks =
+    can_end s ls.lane blocks (lane_state memory pair) (is_served s ls between.shelf between.lane) (at_rest s ls s.head.burst memory pair between.lane between.sound between.none)
+
+-- What a whole run is made of: turns, the lines of a move, and turns.
+
+-- the parts of a run, for a script whose wish to migrate is known
+pub record Parts (s : Script) (k : ℕ) (wish : Option ℕ) (ending : Ending) (blocks : List (List ℕ)) (start : Lane) (mid_blocks : List (List ℕ)) (mid : Lane) (new_blocks : List (List ℕ)) (new : Lane) : Type 0 where
+  pub wish_is : s.head.migrate ≡ wish
+  pub before : List Line
+  pub moving : List Line
+  pub after : List Line
+  pub steps_before : LaneSteps s k blocks start before mid_blocks mid
+  pub are_moving : AreMoving s k wish ending moving
+  pub steps_after : LaneSteps s k mid_blocks mid after new_blocks new
+  pub acts_done : new.acts ≡ length (acts_of k s.acts)
+  pub quiet : IsQuiet new
+
+abbrev whole_run : {s : Script} {k : ℕ} {wish : Option ℕ} {ending : Ending} {blocks : List (List ℕ)} {start : Lane} {mid_blocks : List (List ℕ)} {mid : Lane} {new_blocks : List (List ℕ)} {new : Lane} → Parts s k wish ending blocks start mid_blocks mid new_blocks new → WholeRun s k blocks start ending
+whole_run {s} {k} {ending} {mid_blocks} {mid} {new_blocks} {new} p = record {
+  before = p.before;
+  mid_blocks = mid_blocks;
+  mid = mid;
+  steps_before = p.steps_before;
+  moving = p.moving;
+  are_moving = subst (λ (w : Option ℕ). AreMoving s k w ending p.moving) (sym p.wish_is) p.are_moving;
+  after = p.after;
+  new_blocks = new_blocks;
+  new = new;
+  steps_after = p.steps_after;
+  acts_done = p.acts_done;
+  quiet = p.quiet;
+}
+
+-- the faults that three lists of lines show
+three_faults : (a b c : List Line) → faults_shown (a ++ (b ++ c)) ≡ faults_shown a + (faults_shown b + faults_shown c)
+three_faults a b c = faults_more a (b ++ c) ∙ ap (λ (n : ℕ). faults_shown a + n) (faults_more b c)
+
+-- Its lines are lines.
+
+-- what a script says of lane k, which begins new
+pub record Fits (s : Script) (k : ℕ) (start : Lane) : Type 0 where
+  pub head : IsHead s.head
+  pub lane : (1 ≤ k) × (k ≤ 8)
+  pub set : IsSet (set_of s.head k)
+  pub acts : All (IsAct (set_of s.head k).pages) (acts_of k s.acts)
+  pub few : length (acts_of k s.acts) ≤ 65536
+  pub range : IsInRange s start
+
+pub fits : (s : Script) (ls : LaneScript) (memory : List (List ℕ)) (pair : QueuePair) → IsHead s.head → IsLaneOf s ls → lane_state [] pair ≡ new_lane 0 → Fits s ls.lane (lane_state memory pair)
+fits s ls memory pair head is new = record {
+  head = head;
+  lane = is.lane;
+  set = subst IsSet is.set_is is.set_fits;
+  acts = subst (λ (set : LaneSet). All (IsAct set.pages) (acts_of ls.lane s.acts)) is.set_is (subst (λ (acts : List Act). All (IsAct ls.set.pages) acts) is.acts_are is.acts_fit);
+  few = subst (λ (acts : List Act). length acts ≤ 65536) is.acts_are is.few;
+  range = new_in_range s (lane_state memory pair) (ap (λ (l : Lane). l.submitted) new) (ap (λ (l : Lane). l.running) new) (ap (λ (l : Lane). l.posted) new);
+}
+
+-- lines, and then further lines
+all_lines : (a b : List Line) → AllByRecursion IsLine a → AllByRecursion IsLine b → AllByRecursion IsLine (a ++ b)
+all_lines [] b first second = second
+all_lines (l ∷ a) b first second = (first.0, all_lines a b first.1 second)
+
+moving_are_lines : (s : Script) (k : ℕ) (wish : Option ℕ) (ending : Ending) (lines : List Line) → IsHead s.head → IsSet (set_of s.head k) → AreMoving s k wish ending lines → AllByRecursion IsLine lines
+moving_are_lines s k None Done lines head set are = subst (λ (ls : List Line). AllByRecursion IsLine ls) (sym are) tt
+moving_are_lines s k None GaveUp lines head set are = absurd are
+moving_are_lines s k (Some turn) Done lines head set are = subst (λ (ls : List Line). AllByRecursion IsLine ls) (sym are) (tt, (tt, ((omega (arith, head.blocks.1), omega (arith, set)), (tt, tt))))
+moving_are_lines s k (Some turn) GaveUp lines head set are = subst (λ (ls : List Line). AllByRecursion IsLine ls) (sym are) (tt, (tt, (tt, tt)))
+
+parts_are_lines : {s : Script} {k : ℕ} {wish : Option ℕ} {ending : Ending} {blocks : List (List ℕ)} {start : Lane} {mid_blocks : List (List ℕ)} {mid : Lane} {new_blocks : List (List ℕ)} {new : Lane} →
+    Fits s k start → (p : Parts s k wish ending blocks start mid_blocks mid new_blocks new) → AllByRecursion IsLine (p.before ++ (p.moving ++ p.after))
+parts_are_lines {s} {k} {wish} {ending} {blocks} {start} {mid_blocks} {mid} {new_blocks} {new} fit p =
+    let first = lines_in_range s k p.before blocks start mid_blocks mid fit.head fit.lane.0 fit.lane.1 fit.set fit.acts fit.few fit.range p.steps_before in
+    let second = lines_in_range s k p.after mid_blocks mid new_blocks new fit.head fit.lane.0 fit.lane.1 fit.set fit.acts fit.few first.1 p.steps_after in
+    all_lines p.before (p.moving ++ p.after) first.0 (all_lines p.moving p.after (moving_are_lines s k wish ending p.moving fit.head fit.set p.are_moving) second.0)
+
+-- a run is whole where all its parts were written
+ran : {s : Script} {k : ℕ} {wish : Option ℕ} {ending : Ending} {blocks : List (List ℕ)} {start : Lane} {mid_blocks : List (List ℕ)} {mid : Lane} {new_blocks : List (List ℕ)} {new : Lane} {f t : ℕ} {bytes : Option (List ℕ)} {from_told : Option (List (List ℕ))} {from_memory : List (List ℕ)} {to_told : Option (List (List ℕ))} {to_memory : List (List ℕ)} {new_f new_t : ℕ} {new_bytes : Option (List ℕ)} →
+    Fits s k start → (p : Parts s k wish ending blocks start mid_blocks mid new_blocks new) → new_bytes ≡ with_more (text_of (p.before ++ (p.moving ++ p.after))) bytes →
+    SidesHold wish ending mid_blocks mid new_blocks new from_told from_memory to_told to_memory → RoseTogether (faults_shown p.before + (faults_shown p.moving + faults_shown p.after)) f t new_f new_t →
+    HasRun unframed s k start ending f t bytes from_told from_memory to_told to_memory new_f new_t new_bytes blocks
+ran {ending} {mid_blocks} {mid} {new_blocks} {new} {f} {t} {from_told} {from_memory} {to_told} {to_memory} {new_f} {new_t} fit p text holds causes = record {
+  run = whole_run p;
+  lines = parts_are_lines fit p;
+  text = text;
+  holds = subst (λ (w : Option ℕ). SidesHold w ending mid_blocks mid new_blocks new from_told from_memory to_told to_memory) (sym p.wish_is) holds;
+  causes = subst (λ (n : ℕ). RoseTogether n f t new_f new_t) (sym (three_faults p.before p.moving p.after)) causes;
+}
+
+-- a run stops where a front of its parts was written
+stopped : {s : Script} {k : ℕ} {wish : Option ℕ} {ending : Ending} {blocks : List (List ℕ)} {start : Lane} {mid_blocks : List (List ℕ)} {mid : Lane} {new_blocks : List (List ℕ)} {new : Lane} {f t : ℕ} {bytes : Option (List ℕ)} {new_f new_t : ℕ} {new_bytes : Option (List ℕ)} →
+    Fits s k start → (p : Parts s k wish ending blocks start mid_blocks mid new_blocks new) → IsCut (text_of (p.before ++ (p.moving ++ p.after))) bytes new_bytes →
+    RoseTogether (faults_shown p.before + (faults_shown p.moving + faults_shown p.after)) f t new_f new_t → HasStopped unframed s k start f t bytes new_f new_t new_bytes blocks
+stopped {ending} {f} {t} {new_f} {new_t} fit p text causes = record {
+  ending = ending;
+  run = whole_run p;
+  lines = parts_are_lines fit p;
+  text = text;
+  causes = subst (λ (n : ℕ). RoseTogether n f t new_f new_t) (sym (three_faults p.before p.moving p.after)) causes;
+}
+
+-- the lines of a move that comes to pass, where one is asked for
+abbrev planned : Script → ℕ → Option ℕ → List Line
+planned s k None = []
+planned s k (Some turn) = moving_lines s k Done
+
+are_planned : (s : Script) (k : ℕ) (wish : Option ℕ) → AreMoving s k wish Done (planned s k wish)
+are_planned s k None = refl
+are_planned s k (Some turn) = refl
+
+planned_calm : (s : Script) (k : ℕ) (wish : Option ℕ) → faults_shown (planned s k wish) ≡ 0
+planned_calm s k None = refl
+planned_calm s k (Some turn) = refl
+
+-- the guest has done its acts, and nothing of its is under way
+pub record IsEnd (s : Script) (k : ℕ) (lane : Lane) : Type 0 where
+  pub acts_done : lane.acts ≡ length (acts_of k s.acts)
+  pub quiet : IsQuiet lane
+
+pub is_end : (s : Script) (ls : LaneScript) (pair : QueuePair) (memory : List (List ℕ)) → IsLaneOf s ls → IsPairComplete ls pair → IsEnd s ls.lane (lane_state memory pair)
+is_end s ls pair memory lane complete = record {
+  acts_done = complete.0 ∙ ap length lane.acts_are;
+  quiet = record { all_fetched = complete.1.0; none_running = complete.1.1; all_reaped = complete.1.2 };
+}
+
+-- The runs of a script that asks for no migration.
+
+pub stayed : {s : Script} {k : ℕ} {f : ℕ} {start : Lane} {bytes : Option (List ℕ)} {g : ℕ} {lane : Lane} {new_bytes : Option (List ℕ)} (t : ℕ) (new_to_told : Option (List (List ℕ))) (to_memory : List (List ℕ)) (told to_told new_told : Option (List (List ℕ))) →
+    Fits s k start → s.head.migrate ≡ None → HasTurned true s k told f start bytes new_told g lane new_bytes → IsEnd s k lane →
+    IfTold told to_told (HasRun unframed s k start Done f t bytes new_told lane.pages new_to_told to_memory g t new_bytes)
+stayed t new_to_told to_memory None to_told new_told fit none x end = tt
+stayed t new_to_told to_memory (Some blocks) None new_told fit none x end = tt
+stayed t new_to_told to_memory (Some blocks) (Some to) None fit none x end = absurd x.steps
+stayed {s} {k} {f} {bytes} {g} {lane} {new_bytes} t new_to_told to_memory (Some blocks) (Some to) (Some new_blocks) fit none x end = ran fit
+    (record { wish_is = none; before = x.events; moving = []; after = []; steps_before = x.steps; are_moving = refl; steps_after = (refl, refl); acts_done = end.acts_done; quiet = end.quiet })
+    (subst (λ (es : List Line). new_bytes ≡ with_more (text_of es) bytes) (sym (append-nil x.events)) x.text)
+    (refl, refl)
+    (λ small other. omega (arith, x.causes, x.later, small))
+
+-- A run of which the turns before a migration were written in part: whatever the script asks for.
+pub stopped_before : {s : Script} {ls : LaneScript} {pair : QueuePair} {memory : List (List ℕ)} {f : ℕ} {start : Lane} {bytes : Option (List ℕ)} {g : ℕ} {new_bytes : Option (List ℕ)} (t : ℕ) (told to_told new_told : Option (List (List ℕ))) →
+    Fits s ls.lane start → Between s ls pair → HasTurned false s ls.lane told f start bytes new_told g (lane_state memory pair) new_bytes →
+    IfTold told to_told (HasStopped unframed s ls.lane start f t bytes g t new_bytes)
+stopped_before t None to_told new_told fit between x = tt
+stopped_before t (Some blocks) None new_told fit between x = tt
+stopped_before t (Some blocks) (Some to) None fit between x = absurd x.steps
+stopped_before {s} {ls} {pair} {memory} {f} {start} {bytes} {g} {new_bytes} t (Some blocks) (Some to) (Some new_blocks) fit between x =
+    let rest = goes_to_end s ls pair memory between new_blocks in
+    let wish = s.head.migrate in
+    let lines = planned s ls.lane wish in
+    let calm = planned_calm s ls.lane wish in
+    let rest_calm = rest.calm in
+    stopped fit
+    (record { wish_is = refl; before = x.events; moving = lines; after = rest.events; steps_before = x.steps; are_moving = are_planned s ls.lane wish; steps_after = rest.steps; acts_done = rest.acts; quiet = rest.quiet })
+    (lines_cut_longer x.events (lines ++ rest.events) bytes new_bytes x.text)
+    (λ small other. omega (arith, x.causes, x.later, small, calm, rest_calm))
+
+-- The runs of a script that asks for one.
+
+pub moved : {s : Script} {k turn : ℕ} {f t : ℕ} {start : Lane} {bytes : Option (List ℕ)} {g : ℕ} {lane : Lane} {mid_bytes : Option (List ℕ)} {h u : ℕ} {moved_bytes : Option (List ℕ)} {v : ℕ} {new : Lane} {new_bytes : Option (List ℕ)} (n : ℕ) (told to_told mid_told moved_told new_told : Option (List (List ℕ))) →
+    Fits s k start → s.head.migrate ≡ Some turn → HasTurned true s k told f start bytes mid_told g lane mid_bytes →
+    HasMoved true s k Done g t mid_bytes h u moved_bytes → g ≤ h → t ≤ u → AreCopied n mid_told to_told moved_told → IsSized mid_told n → IsSized moved_told n →
+    HasTurned true s k moved_told u lane moved_bytes new_told v new new_bytes → IsEnd s k new →
+    IfTold told to_told (HasRun unframed s k start Done f t bytes mid_told lane.pages new_told new.pages h v new_bytes)
+moved n None to_told mid_told moved_told new_told fit asked x m from_later to_later copied sized to_sized y end = tt
+moved n (Some blocks) None mid_told moved_told new_told fit asked x m from_later to_later copied sized to_sized y end = tt
+moved n (Some blocks) (Some to) None moved_told new_told fit asked x m from_later to_later copied sized to_sized y end = absurd x.steps
+moved n (Some blocks) (Some to) (Some mid) None new_told fit asked x m from_later to_later copied sized to_sized y end = absurd copied
+moved n (Some blocks) (Some to) (Some mid) (Some same) None fit asked x m from_later to_later copied sized to_sized y end = absurd y.steps
+moved {s} {k} {f} {t} {bytes} {g} {lane} {mid_bytes} {h} {u} {moved_bytes} {v} {new} {new_bytes} n (Some blocks) (Some to) (Some mid) (Some same) (Some new_blocks) fit asked x m from_later to_later copied sized to_sized y end =
+    let is : same ≡ mid = all_copied n mid same sized to_sized copied in
+    ran fit
+    (record {
+      wish_is = asked;
+      before = x.events;
+      moving = moving_lines s k Done;
+      after = y.events;
+      steps_before = x.steps;
+      are_moving = refl;
+      steps_after = subst (λ (b : List (List ℕ)). LaneSteps s k b lane y.events new_blocks new) is y.steps;
+      acts_done = end.acts_done;
+      quiet = end.quiet;
+    })
+    (lines_more x.events (moving_lines s k Done ++ y.events) bytes mid_bytes new_bytes x.text (lines_more (moving_lines s k Done) y.events mid_bytes moved_bytes new_bytes m.text y.text))
+    (refl, refl, refl, refl)
+    (λ small other. omega (arith, x.causes, x.later, y.causes, y.later, from_later, to_later, small, other))
+
+pub given_up : {s : Script} {k turn : ℕ} {f t : ℕ} {start : Lane} {bytes : Option (List ℕ)} {g : ℕ} {lane : Lane} {mid_bytes : Option (List ℕ)} {h u : ℕ} {moved_bytes : Option (List ℕ)} {v : ℕ} {new : Lane} {new_bytes : Option (List ℕ)} (new_to_told : Option (List (List ℕ))) (to_memory : List (List ℕ)) (told to_told mid_told new_told : Option (List (List ℕ))) →
+    Fits s k start → s.head.migrate ≡ Some turn → HasTurned true s k told f start bytes mid_told g lane mid_bytes →
+    HasMoved true s k GaveUp g t mid_bytes h u moved_bytes → g ≤ h → t ≤ u →
+    HasTurned true s k mid_told h lane moved_bytes new_told v new new_bytes → IsEnd s k new →
+    IfTold told to_told (HasRun unframed s k start GaveUp f t bytes new_told new.pages new_to_told to_memory v u new_bytes)
+given_up new_to_told to_memory None to_told mid_told new_told fit asked x m from_later to_later y end = tt
+given_up new_to_told to_memory (Some blocks) None mid_told new_told fit asked x m from_later to_later y end = tt
+given_up new_to_told to_memory (Some blocks) (Some to) None new_told fit asked x m from_later to_later y end = absurd x.steps
+given_up new_to_told to_memory (Some blocks) (Some to) (Some mid) None fit asked x m from_later to_later y end = absurd y.steps
+given_up {s} {k} {f} {t} {bytes} {g} {lane} {mid_bytes} {h} {u} {moved_bytes} {v} {new} {new_bytes} new_to_told to_memory (Some blocks) (Some to) (Some mid) (Some new_blocks) fit asked x m from_later to_later y end =
+    ran fit
+    (record { wish_is = asked; before = x.events; moving = moving_lines s k GaveUp; after = y.events; steps_before = x.steps; are_moving = refl; steps_after = y.steps; acts_done = end.acts_done; quiet = end.quiet })
+    (lines_more x.events (moving_lines s k GaveUp ++ y.events) bytes mid_bytes new_bytes x.text (lines_more (moving_lines s k GaveUp) y.events mid_bytes moved_bytes new_bytes m.text y.text))
+    (refl, refl)
+    (λ small other. let one = m.causes (omega (arith, y.later, small)) other in omega (arith, x.causes, x.later, y.causes, y.later, from_later, to_later, small, other, one))
+
+-- the lines of the move were written in part
+pub stopped_moving : {s : Script} {ls : LaneScript} {pair : QueuePair} {memory : List (List ℕ)} {turn : ℕ} {ending : Ending} {f t : ℕ} {start : Lane} {bytes : Option (List ℕ)} {g : ℕ} {mid_bytes : Option (List ℕ)} {h u : ℕ} {new_bytes : Option (List ℕ)} (told to_told mid_told : Option (List (List ℕ))) →
+    Fits s ls.lane start → s.head.migrate ≡ Some turn → Between s ls pair → HasTurned true s ls.lane told f start bytes mid_told g (lane_state memory pair) mid_bytes →
+    HasMoved false s ls.lane ending g t mid_bytes h u new_bytes → g ≤ h → t ≤ u →
+    IfTold told to_told (HasStopped unframed s ls.lane start f t bytes h u new_bytes)
+stopped_moving None to_told mid_told fit asked between x m from_later to_later = tt
+stopped_moving (Some blocks) None mid_told fit asked between x m from_later to_later = tt
+stopped_moving (Some blocks) (Some to) None fit asked between x m from_later to_later = absurd x.steps
+stopped_moving {s} {ls} {pair} {memory} {ending} {f} {t} {start} {bytes} {g} {mid_bytes} {h} {u} {new_bytes} (Some blocks) (Some to) (Some mid) fit asked between x m from_later to_later =
+    let rest = goes_to_end s ls pair memory between mid in
+    let rest_calm = rest.calm in
+    let lines = moving_lines s ls.lane ending in
+    stopped fit
+    (record { wish_is = asked; before = x.events; moving = lines; after = rest.events; steps_before = x.steps; are_moving = refl; steps_after = rest.steps; acts_done = rest.acts; quiet = rest.quiet })
+    (lines_cut_after x.events (lines ++ rest.events) bytes mid_bytes new_bytes x.text (lines_cut_longer lines rest.events mid_bytes new_bytes m.text))
+    (λ small other. let moved = m.causes small other in omega (arith, x.causes, x.later, from_later, to_later, small, other, rest_calm, moved))
+
+-- turns after a move were written in part
+stopped_later : {s : Script} {ls : LaneScript} {pair : QueuePair} {turn : ℕ} {f t : ℕ} {start : Lane} {bytes : Option (List ℕ)} {h v : ℕ} {new_bytes : Option (List ℕ)} (memory : List (List ℕ)) (lane : Lane) (ending : Ending) (blocks mid new_blocks : List (List ℕ)) →
+    Fits s ls.lane start → s.head.migrate ≡ Some turn → Between s ls pair → (before : List Line) → LaneSteps s ls.lane blocks start before mid lane → (after : List Line) → LaneSteps s ls.lane mid lane after new_blocks (lane_state memory pair) →
+    IsCut (text_of (before ++ (moving_lines s ls.lane ending ++ after))) bytes new_bytes → RoseTogether (faults_shown before + (faults_shown (moving_lines s ls.lane ending) + faults_shown after)) f t h v →
+    HasStopped unframed s ls.lane start f t bytes h v new_bytes blocks
+stopped_later {s} {ls} {pair} {f} {t} {start} {bytes} {h} {v} {new_bytes} memory lane ending blocks mid new_blocks fit asked between before steps_before after steps_after cut causes =
+    let new = lane_state memory pair in
+    let lines = moving_lines s ls.lane ending in
+    let rest = goes_to_end s ls pair memory between new_blocks in
+    let rest_calm = rest.calm in
+    let more = faults_more after rest.events in
+    stopped fit
+    (record {
+      wish_is = asked;
+      before = before;
+      moving = lines;
+      after = after ++ rest.events;
+      steps_before = steps_before;
+      are_moving = refl;
+      steps_after = steps_more s ls.lane after rest.events mid lane new_blocks new rest.new_blocks rest.new steps_after rest.steps;
+      acts_done = rest.acts;
+      quiet = rest.quiet;
+    })
+    (subst (λ (es : List Line). IsCut (text_of es) bytes new_bytes) (append_assoc before (lines ++ after) rest.events ∙ ap (λ (es : List Line). before ++ es) (append_assoc lines after rest.events))
+    (lines_cut_longer (before ++ (lines ++ after)) rest.events bytes new_bytes cut))
+    (λ small other. let rose = causes small other in omega (arith, rose, rest_calm, more))
+
+-- the turns after the move were written in part
+pub stopped_moved : {s : Script} {ls : LaneScript} {pair : QueuePair} {memory : List (List ℕ)} {turn : ℕ} {f t : ℕ} {start : Lane} {bytes : Option (List ℕ)} {g : ℕ} {lane : Lane} {mid_bytes : Option (List ℕ)} {h u : ℕ} {moved_bytes : Option (List ℕ)} {v : ℕ} {new_bytes : Option (List ℕ)} (n : ℕ) (told to_told mid_told moved_told new_told : Option (List (List ℕ))) →
+    Fits s ls.lane start → s.head.migrate ≡ Some turn → Between s ls pair → HasTurned true s ls.lane told f start bytes mid_told g lane mid_bytes →
+    HasMoved true s ls.lane Done g t mid_bytes h u moved_bytes → g ≤ h → t ≤ u → AreCopied n mid_told to_told moved_told → IsSized mid_told n → IsSized moved_told n →
+    HasTurned false s ls.lane moved_told u lane moved_bytes new_told v (lane_state memory pair) new_bytes →
+    IfTold told to_told (HasStopped unframed s ls.lane start f t bytes h v new_bytes)
+stopped_moved n None to_told mid_told moved_told new_told fit asked between x m from_later to_later copied sized to_sized y = tt
+stopped_moved n (Some blocks) None mid_told moved_told new_told fit asked between x m from_later to_later copied sized to_sized y = tt
+stopped_moved n (Some blocks) (Some to) None moved_told new_told fit asked between x m from_later to_later copied sized to_sized y = absurd x.steps
+stopped_moved n (Some blocks) (Some to) (Some mid) None new_told fit asked between x m from_later to_later copied sized to_sized y = absurd copied
+stopped_moved n (Some blocks) (Some to) (Some mid) (Some same) None fit asked between x m from_later to_later copied sized to_sized y = absurd y.steps
+stopped_moved {s} {ls} {pair} {memory} {f} {t} {start} {bytes} {g} {lane} {mid_bytes} {h} {u} {moved_bytes} {v} {new_bytes} n (Some blocks) (Some to) (Some mid) (Some same) (Some new_blocks) fit asked between x m from_later to_later copied sized to_sized y =
+    let is : same ≡ mid = all_copied n mid same sized to_sized copied in
+    let steps = subst (λ (b : List (List ℕ)). LaneSteps s ls.lane b lane y.events new_blocks (lane_state memory pair)) is y.steps in
+    stopped_later memory lane Done blocks mid new_blocks fit asked between x.events x.steps y.events steps
+    (lines_cut_after x.events (moving_lines s ls.lane Done ++ y.events) bytes mid_bytes new_bytes x.text (lines_cut_after (moving_lines s ls.lane Done) y.events mid_bytes moved_bytes new_bytes m.text y.text))
+    (λ small other. omega (arith, x.causes, x.later, y.causes, y.later, from_later, to_later, small, other))
+
+pub stopped_given_up : {s : Script} {ls : LaneScript} {pair : QueuePair} {memory : List (List ℕ)} {turn : ℕ} {f t : ℕ} {start : Lane} {bytes : Option (List ℕ)} {g : ℕ} {lane : Lane} {mid_bytes : Option (List ℕ)} {h u : ℕ} {moved_bytes : Option (List ℕ)} {v : ℕ} {new_bytes : Option (List ℕ)} (told to_told mid_told new_told : Option (List (List ℕ))) →
+    Fits s ls.lane start → s.head.migrate ≡ Some turn → Between s ls pair → HasTurned true s ls.lane told f start bytes mid_told g lane mid_bytes →
+    HasMoved true s ls.lane GaveUp g t mid_bytes h u moved_bytes → g ≤ h → t ≤ u →
+    HasTurned false s ls.lane mid_told h lane moved_bytes new_told v (lane_state memory pair) new_bytes →
+    IfTold told to_told (HasStopped unframed s ls.lane start f t bytes v u new_bytes)
+stopped_given_up None to_told mid_told new_told fit asked between x m from_later to_later y = tt
+stopped_given_up (Some blocks) None mid_told new_told fit asked between x m from_later to_later y = tt
+stopped_given_up (Some blocks) (Some to) None new_told fit asked between x m from_later to_later y = absurd x.steps
+stopped_given_up (Some blocks) (Some to) (Some mid) None fit asked between x m from_later to_later y = absurd y.steps
+stopped_given_up {s} {ls} {pair} {memory} {f} {t} {start} {bytes} {g} {lane} {mid_bytes} {h} {u} {moved_bytes} {v} {new_bytes} (Some blocks) (Some to) (Some mid) (Some new_blocks) fit asked between x m from_later to_later y =
+    stopped_later memory lane GaveUp blocks mid new_blocks fit asked between x.events x.steps y.events y.steps
+    (lines_cut_after x.events (moving_lines s ls.lane GaveUp ++ y.events) bytes mid_bytes new_bytes x.text (lines_cut_after (moving_lines s ls.lane GaveUp) y.events mid_bytes moved_bytes new_bytes m.text y.text))
+    (λ small other. let one = m.causes (omega (arith, y.later, small)) other in omega (arith, x.causes, x.later, y.causes, y.later, from_later, to_later, small, other, one))
+
+-- A run between the first two lines and the last, with these.
+
+framed_more : (body : List Line) (bytes mid new_bytes : Option (List ℕ)) → mid ≡ with_more (text_of (line.Title ∷ line.Ready ∷ [])) bytes → IsCut (text_of body) mid new_bytes → IsCut (text_of (framed body)) bytes new_bytes
+framed_more body bytes mid new_bytes first cut =
+    lines_cut_after (line.Title ∷ line.Ready ∷ []) (body ++ line.End ∷ []) bytes mid new_bytes first (lines_cut_longer body (line.End ∷ []) mid new_bytes cut)
+
+-- what follows where both sides tell their blocks
+pub if_told : (told to : Option (List (List ℕ))) (P Q : List (List ℕ) → Type 0) → ((blocks : List (List ℕ)) → P blocks → Q blocks) → IfTold told to P → IfTold told to Q
+if_told None to P Q f x = tt
+if_told (Some blocks) None P Q f x = tt
+if_told (Some blocks) (Some other) P Q f x = f blocks x
+
+pub framed_ran : {s : Script} {k : ℕ} {start : Lane} {ending : Ending} {f t : ℕ} {bytes mid : Option (List ℕ)} {from_told : Option (List (List ℕ))} {from_memory : List (List ℕ)} {to_told : Option (List (List ℕ))} {to_memory : List (List ℕ)} {g u : ℕ} {done new_bytes : Option (List ℕ)} {blocks : List (List ℕ)} →
+    mid ≡ with_more (text_of (line.Title ∷ line.Ready ∷ [])) bytes → new_bytes ≡ with_more (line_text line.End) done →
+    HasRun unframed s k start ending f t mid from_told from_memory to_told to_memory g u done blocks → HasRun framed s k start ending f t bytes from_told from_memory to_told to_memory g u new_bytes blocks
+framed_ran {s} {k} {start} {ending} {bytes} {mid} {done} {new_bytes} {blocks} first last x =
+    let body = body_of s k blocks start ending x.run in
     record {
-      events = x.events ++ y.added;
-      text = written ∙ ap (λ (t : Option (List ℕ)). with_more (text_of events) t) x.text
-          ∙ with_more_more (text_of x.events) (text_of events) start_bytes
-          ∙ ap (λ (l : List Line). with_more (text_of x.events ++ text_of l) start_bytes) (sym added)
-          ∙ ap (λ (t : List ℕ). with_more t start_bytes) (sym (flat_map-append line_text x.events y.added));
-      form = All-append (λ (l : Line). HasForm l → IsLine l) x.events y.added x.form (subst (λ (l : List Line). All (λ (l : Line). HasForm l → IsLine l) l) (sym added) form);
-      steps = told_more s k x.events y.added a lane b mid c new x.steps y.steps;
-      causes = rw (sum_by-append (λ l. cond (shows_fault l) 1 0) x.events y.added) (rises_more (faults_shown x.events) (faults_shown y.added) f g h x.causes y.causes);
-      later = omega (arith, x.later, y.later);
+      run = x.run;
+      lines = (tt, (tt, all_lines body (line.End ∷ []) x.lines (tt, tt)));
+      text = lines_more (line.Title ∷ line.Ready ∷ []) (body ++ line.End ∷ []) bytes mid new_bytes first (lines_more body (line.End ∷ []) mid done new_bytes x.text last);
+      holds = x.holds;
+      causes = x.causes;
     }
 
-four_parts : (a b c d : List ℕ) (bytes : Option (List ℕ)) → with_more d (with_more c (with_more b (with_more a bytes))) ≡ with_more (a ++ (b ++ (c ++ d))) bytes
-four_parts a b c d bytes =
-    ap (λ (t : Option (List ℕ)). with_more d (with_more c t)) (with_more_more a b bytes)
-    ∙ ap (λ (t : Option (List ℕ)). with_more d t) (with_more_more (a ++ b) c bytes)
-    ∙ with_more_more ((a ++ b) ++ c) d bytes
-    ∙ ap (λ (t : List ℕ). with_more t bytes) (append_assoc (a ++ b) c d ∙ append_assoc a b (c ++ d))
-
--- the text of a whole run
-whole_text : (events : List Line) (bytes : Option (List ℕ)) →
-    with_more (line_text line.End) (with_more (text_of events) (with_more (line_text line.Ready) (with_more (line_text line.Title) bytes))) ≡ with_more (text_of (line.Title ∷ line.Ready ∷ (events ++ line.End ∷ []))) bytes
-whole_text events bytes =
-    four_parts (line_text line.Title) (line_text line.Ready) (text_of events) (line_text line.End) bytes
-    ∙ ap (λ (rest : List ℕ). with_more (line_text line.Title ++ (line_text line.Ready ++ rest)) bytes) (sym (flat_map-append line_text events (line.End ∷ [])))
-
--- a run is its turns between the first lines and the last
-pub has_run : {s : Script} {k acts : ℕ} {told : Option (List (List ℕ))} {faults : ℕ} {lane : Lane} {bytes titled readied turned : Option (List ℕ)} {new_told : Option (List (List ℕ))} {new_faults : ℕ} {new : Lane} {new_bytes : Option (List ℕ)} →
-    titled ≡ with_more (line_text line.Title) bytes → readied ≡ with_more (line_text line.Ready) titled →
-    HasTurned s k told faults lane readied new_told new_faults new turned → new_bytes ≡ with_more (line_text line.End) turned → new.acts ≡ acts → IsQuiet new →
-    HasRun s k acts told faults lane bytes new_told new_faults new new_bytes
-has_run {bytes} title ready x end acts_done quiet = record {
-  events = x.events;
-  text = end ∙ ap (λ (t : Option (List ℕ)). with_more (line_text line.End) t) (x.text ∙ ap (λ (t : Option (List ℕ)). with_more (text_of x.events) t) (ready ∙ ap (λ (t : Option (List ℕ)). with_more (line_text line.Ready) t) title)) ∙ whole_text x.events bytes;
-  form = x.form;
-  steps = x.steps;
+-- stopped between these
+pub framed_stopped : {s : Script} {k : ℕ} {start : Lane} {f t : ℕ} {bytes mid : Option (List ℕ)} {g u : ℕ} {new_bytes : Option (List ℕ)} {blocks : List (List ℕ)} →
+    mid ≡ with_more (text_of (line.Title ∷ line.Ready ∷ [])) bytes → HasStopped unframed s k start f t mid g u new_bytes blocks → HasStopped framed s k start f t bytes g u new_bytes blocks
+framed_stopped {s} {k} {start} {bytes} {mid} {new_bytes} {blocks} first x = record {
+  ending = x.ending;
+  run = x.run;
+  lines = (tt, (tt, all_lines (body_of s k blocks start x.ending x.run) (line.End ∷ []) x.lines (tt, tt)));
+  text = framed_more (body_of s k blocks start x.ending x.run) bytes mid new_bytes first x.text;
   causes = x.causes;
-  later = x.later;
-  acts_done = acts_done;
-  quiet = quiet;
 }
+
+-- stopped in the last line
+pub last_stopped : {s : Script} {k : ℕ} {start : Lane} {ending : Ending} {f t : ℕ} {bytes mid : Option (List ℕ)} {from_told : Option (List (List ℕ))} {from_memory : List (List ℕ)} {to_told : Option (List (List ℕ))} {to_memory : List (List ℕ)} {g u : ℕ} {done new_bytes : Option (List ℕ)} {blocks : List (List ℕ)} →
+    mid ≡ with_more (text_of (line.Title ∷ line.Ready ∷ [])) bytes → IsCut (line_text line.End) done new_bytes →
+    HasRun unframed s k start ending f t mid from_told from_memory to_told to_memory g u done blocks → HasStopped framed s k start f t bytes g u new_bytes blocks
+last_stopped {s} {k} {start} {ending} {bytes} {mid} {done} {new_bytes} {blocks} first last x =
+    let body = body_of s k blocks start ending x.run in
+    record {
+      ending = ending;
+      run = x.run;
+      lines = (tt, (tt, all_lines body (line.End ∷ []) x.lines (tt, tt)));
+      text = lines_cut_after (line.Title ∷ line.Ready ∷ []) (body ++ line.End ∷ []) bytes mid new_bytes first (lines_cut_after body (line.End ∷ []) mid done new_bytes x.text last);
+      causes = x.causes;
+    }
+
+-- stopped in the first two lines
+pub first_stopped : {s : Script} {ls : LaneScript} {pair : QueuePair} (bytes new_bytes : Option (List ℕ)) (memory : List (List ℕ)) (f t : ℕ) (told to : Option (List (List ℕ))) →
+    Fits s ls.lane (lane_state memory pair) → Between s ls pair → IsCut (text_of (line.Title ∷ line.Ready ∷ [])) bytes new_bytes → IfTold told to (HasStopped framed s ls.lane (lane_state memory pair) f t bytes f t new_bytes)
+first_stopped bytes new_bytes memory f t None to fit between cut = tt
+first_stopped bytes new_bytes memory f t (Some blocks) None fit between cut = tt
+first_stopped {s} {ls} {pair} bytes new_bytes memory f t (Some blocks) (Some other) fit between cut =
+    let start = lane_state memory pair in
+    let rest = goes_to_end s ls pair memory between blocks in
+    let rest_calm = rest.calm in
+    let lines = planned s ls.lane s.head.migrate in
+    let calm = planned_calm s ls.lane s.head.migrate in
+    let more = faults_more lines rest.events in
+    let parts : Parts s ls.lane s.head.migrate Done blocks start blocks start rest.new_blocks rest.new =
+    record { wish_is = refl; before = []; moving = lines; after = rest.events; steps_before = (refl, refl); are_moving = are_planned s ls.lane s.head.migrate; steps_after = rest.steps; acts_done = rest.acts; quiet = rest.quiet } in
+    record {
+      ending = Done;
+      run = whole_run parts;
+      lines = (tt, (tt, all_lines (lines ++ rest.events) (line.End ∷ []) (parts_are_lines fit parts) (tt, tt)));
+      text = lines_cut_longer (line.Title ∷ line.Ready ∷ []) ((lines ++ rest.events) ++ line.End ∷ []) bytes new_bytes cut;
+      causes = λ small other. omega (arith, rest_calm, calm, more);
+    }

@@ -1,10 +1,11 @@
-use Rattle.std.proofs.Common.{◌≡◌, ℕ, ◌+◌, ◌<◌, List, [], ◌∷◌, ◌++◌, Option, Some, None, All, length, take, get_or, refl, sym, ap, subst, ◌∙◌, append_assoc}
-use Rattle.std.specs.List.{flat_map}
-use Rattle.std.proofs.lemmas.List.{take_more, flat_map_more}
-use Rattle.std.proofs.lemmas.List.Elements.{All-same, All-push}
+use Rattle.std.proofs.Common.{◌≡◌, ℕ, ◌+◌, ◌<◌, List, [], ◌++◌, Option, Some, None, length, take, drop, get_or, refl, sym, ap, subst, ◌∙◌, append_assoc, arith}
+use Rattle.std.proofs.Math.Seq.{take-append-add}
+use Rattle.std.proofs.lemmas.Grind.{flat_map-append}
+use Rattle.std.proofs.lemmas.List.{take_more, flat_map_more, take-append-le, take-append-drop, length-append}
 use Rattle.mig_base.specs.Stream.{with_more}
 use Rattle.nvm_model.specs.declared.line.Line.{Line}
 use Rattle.nvm_model.specs.Text.{line_text, text_of}
+use Rattle.session.specs.Written.{IsCut}
 
 -- bytes, and then further bytes
 pub with_more_more : (a b : List ℕ) (told : Option (List ℕ)) → with_more b (with_more a told) ≡ with_more (a ++ b) told
@@ -16,6 +17,41 @@ pub text_of_more : (lines : List Line) (i : ℕ) (l : Line) → i < length lines
 text_of_more lines i l there is =
     ap text_of (take_more lines i l there) ∙ sym (flat_map_more line_text [] (take i lines) (get_or lines i l)) ∙ ap (λ (x : Line). text_of (take i lines) ++ line_text x) (sym is)
 
--- what holds of one more element
-pub all_more : {X : Type 0} (P : X → Type 0) (xs : List X) (i : ℕ) (x : X) → i < length xs → x ≡ get_or xs i x → All P (take i xs) → P x → All P (take (i + 1) xs)
-all_more P xs i x there is all one = All-same P _ _ (take_more xs i x there) (All-push P (take i xs) (get_or xs i x) all (subst P is one))
+-- lines, and then further lines
+pub lines_more : (a b : List Line) (before mid after : Option (List ℕ)) → mid ≡ with_more (text_of a) before → after ≡ with_more (text_of b) mid → after ≡ with_more (text_of (a ++ b)) before
+lines_more a b before mid after first second =
+    second ∙ ap (λ (t : Option (List ℕ)). with_more (text_of b) t) first ∙ with_more_more (text_of a) (text_of b) before
+    ∙ ap (λ (t : List ℕ). with_more t before) (sym (flat_map-append line_text a b))
+
+-- a front of a text is one of a longer text
+cut_longer : (a b : List ℕ) (before after : Option (List ℕ)) → IsCut a before after → IsCut (a ++ b) before after
+cut_longer a b before after cut =
+    let n = cut.0 in
+    let more = length-append a b in
+    (n, omega (arith, cut.1, more), cut.2 ∙ ap (λ (t : List ℕ). with_more t before) (sym (take-append-le n a b cut.1)))
+
+cut_after : (a b : List ℕ) (before mid after : Option (List ℕ)) → mid ≡ with_more a before → IsCut b mid after → IsCut (a ++ b) before after
+cut_after a b before mid after first cut =
+    let n = cut.0 in
+    let more = length-append a b in (
+      length a + n,
+      omega (arith, cut.1, more),
+      cut.2 ∙ ap (λ (t : Option (List ℕ)). with_more (take n b) t) first ∙ with_more_more a (take n b) before ∙ ap (λ (t : List ℕ). with_more t before) (sym (take-append-add a b n)),
+    )
+
+-- the same of lines, of which a front was written
+pub lines_cut_longer : (a b : List Line) (before after : Option (List ℕ)) → IsCut (text_of a) before after → IsCut (text_of (a ++ b)) before after
+lines_cut_longer a b before after cut =
+    subst (λ (t : List ℕ). IsCut t before after) (sym (flat_map-append line_text a b)) (cut_longer (text_of a) (text_of b) before after cut)
+
+pub lines_cut_after : (a b : List Line) (before mid after : Option (List ℕ)) → mid ≡ with_more (text_of a) before → IsCut (text_of b) mid after → IsCut (text_of (a ++ b)) before after
+lines_cut_after a b before mid after first cut =
+    subst (λ (t : List ℕ). IsCut t before after) (sym (flat_map-append line_text a b)) (cut_after (text_of a) (text_of b) before mid after first cut)
+
+-- all lines before one were written, and a front of that one
+pub line_cut : (lines : List Line) (i : ℕ) (l : Line) (before mid after : Option (List ℕ)) → i < length lines → l ≡ get_or lines i l →
+    mid ≡ with_more (text_of (take i lines)) before → IsCut (line_text l) mid after → IsCut (text_of lines) before after
+line_cut lines i l before mid after there is first cut =
+    let upto : IsCut (text_of (take (i + 1) lines)) before after =
+    subst (λ (t : List ℕ). IsCut t before after) (sym (text_of_more lines i l there is)) (cut_after (text_of (take i lines)) (line_text l) before mid after first cut) in
+    subst (λ (ls : List Line). IsCut (text_of ls) before after) (take-append-drop (i + 1) lines) (lines_cut_longer (take (i + 1) lines) (drop (i + 1) lines) before after upto)

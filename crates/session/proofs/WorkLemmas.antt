@@ -1,4 +1,4 @@
-use Rattle.std.proofs.Common.{◌≡◌, ℕ, ◌+◌, ◌-◌, ◌*◌, ◌/◌, ◌<◌, ◌≤◌, max, min, List, [], ◌∷◌, ◌++◌, Option, Some, None, All, length, take, get_or, cond, refl, sym, ap, subst, ◌∙◌, arith}
+use Rattle.std.proofs.Common.{◌≡◌, ℕ, ◌+◌, ◌-◌, ◌/◌, ◌<◌, ◌≤◌, List, [], ◌∷◌, ◌++◌, Option, Some, None, All, length, take, get_or, refl, subst, arith}
 use Rattle.std.specs.List.{slice_get}
 use Rattle.std.specs.Prelude.{slice_set}
 use Rattle.std.proofs.Math.Nat.{div-eq_of_lt}
@@ -12,12 +12,11 @@ use Rattle.nvm_model.specs.declared.command.Work.{Work}
 use Rattle.nvm_model.specs.declared.line.Line.TheVariants as line
 use Rattle.nvm_model.specs.declared.line.Line.{Line}
 use Rattle.nvm_model.specs.declared.script.Script.{Script}
-use Rattle.nvm_model.specs.Event.{LaneStep, DoesWork, DoesPiece}
+use Rattle.nvm_model.specs.Event.{DoesWork, DoesPiece}
 use Rattle.nvm_model.specs.Piece.{piece_count, piece_at, pieces_left, after_piece}
 use Rattle.nvm_model.specs.World.{Lane}
 use Rattle.session.specs.declared.piece.Piece.{Piece}
-use Rattle.session.specs.Goes.{LaneSteps, ToldSteps, Goes}
-use Rattle.session.specs.State.{IsWork}
+use Rattle.session.specs.Goes.{ToldSteps, Goes}
 use Rattle.session.specs.Work.{IsDone, IsToldDone, faults_in}
 
 -- a command's blocks lie in one shelf where there is one

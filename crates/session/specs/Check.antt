@@ -1,5 +1,4 @@
 use Rattle.std.specs.Prelude.{◌≡◌, ◌+◌, ◌≤◌, ℕ, Bool, List, [], ◌∷◌, Option, Some, None, if◌then◌else◌, IsSomeAnd}
-use Rattle.nvm_values.specs.declared.op.Op.{Op}
 use Rattle.nvm_values.specs.declared.sqe.Sqe.{Sqe}
 use Rattle.nvm_values.specs.Sqe.{slba_of, count_of}
 use Rattle.nvm_values.specs.Op.{op_of}

@@ -1,4 +1,8 @@
+pub mod Written
+pub mod Side
 pub mod Goes
+pub mod Range
+pub mod Rest
 pub mod Run
 pub mod State
 pub mod Check

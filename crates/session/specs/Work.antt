@@ -1,9 +1,6 @@
 use Rattle.std.specs.Prelude.{◌≡◌, ℕ, ◌+◌, ◌^◌, ◌<◌, ◌≤◌, cond, List, Option, Some, None, IfSome, IsTrue, length}
-use Rattle.mig_base.specs.declared.span.Span.{Span}
-use Rattle.nvm_values.specs.declared.op.Op.{Op}
 use Rattle.nvm_values.specs.Op.{moves_data}
 use Rattle.nvm_model.specs.declared.command.Outcome.{Outcome}
-use Rattle.nvm_model.specs.declared.command.Pages.{Pages}
 use Rattle.nvm_model.specs.History.{is_faulted}
 use Rattle.nvm_model.specs.Piece.{OutcomeFits, page_of, block_at, data_block, done_blocks, put_blocks, blocks_after, memory_after, digest_after}
 use Rattle.session.specs.declared.piece.Piece.{Piece}

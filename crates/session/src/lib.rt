@@ -5,6 +5,8 @@
 
 mod check;
 mod controller;
+mod cutover;
+mod ending;
 mod guest;
 mod lane_script;
 mod lines;
@@ -14,6 +16,7 @@ mod queue_pair;
 mod serial;
 mod turn;
 
+pub use ending::Ending;
 pub use lane_script::LaneScript;
 pub use queue_pair::QueuePair;
 pub use serial::run;

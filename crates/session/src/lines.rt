@@ -1,9 +1,9 @@
 // Lines go out one by one.
-ghost use Rattle.std.specs.Prelude.{◌≡◌, All, OnOk};
-ghost use Rattle.nvm_model.specs.declared.line.Line.{Line};
+ghost use Rattle.std.specs.Prelude.{◌≡◌, OnErr, OnOk};
 ghost use Rattle.mig_base.specs.Count.{HasCause};
 ghost use Rattle.mig_base.specs.Stream.{with_more};
-ghost use Rattle.nvm_model.specs.Text.{line_text, text_of, IsLine, HasForm};
+ghost use Rattle.nvm_model.specs.Text.{line_text, text_of};
+ghost use Rattle.session.specs.Written.{IsCut};
 
 use mig_base::{Failed, Sink, send};
 use nvm_model::Line;
@@ -16,7 +16,7 @@ pub(crate) fn write_line<K: Sink>(
     output: &mut K,
 ) -> Result<(), Failed>
     ensures written { OnOk result (K.bytes output.new ≡ with_more (line_text line.now) (K.bytes output.old)) }
-    ensures form { HasForm line.now → IsLine line.now }
+    ensures cut { OnErr result (IsCut (line_text line.now) (K.bytes output.old) (K.bytes output.new)) }
     ensures cause { HasCause (K.faults output.old) (K.faults output.new) result }
 {
     print_line(line, buf);
@@ -30,7 +30,7 @@ pub(crate) fn write_lines<K: Sink>(
     output: &mut K,
 ) -> Result<(), Failed>
     ensures written { OnOk result (K.bytes output.new ≡ with_more (text_of lines.now) (K.bytes output.old)) }
-    ensures form { OnOk result (All (λ (l : Line). HasForm l → IsLine l) lines.now) }
+    ensures cut { OnErr result (IsCut (text_of lines.now) (K.bytes output.old) (K.bytes output.new)) }
     ensures cause { HasCause (K.faults output.old) (K.faults output.new) result }
 {
     for line in lines {

@@ -1,22 +1,26 @@
-// A whole run: turns until the lane is complete, between the first lines and the last.
-ghost use Rattle.std.specs.Prelude.{◌≡◌, ◌+◌, ◌≤◌, [], OnOk, length, vec_capacity};
+// A whole run: turns until the lane is complete, with at most one move between two turns, between the first lines and
+// the last.
+ghost use Rattle.std.specs.Prelude.{◌≡◌, ◌+◌, ◌<◌, ◌≤◌, ◌∷◌, [], true, false, Some, None, OnErr, OnOk, IfOk, length, vec_capacity};
 ghost use Rattle.mig_base.specs.Count.{HasCause};
 ghost use Rattle.nvm_model.specs.ScriptText.{IsHead};
-ghost use Rattle.guest_ram.specs.Window.{data_pages};
-ghost use Rattle.session.specs.Run.{HasRun, HasTurned};
-ghost use Rattle.session.specs.State.{lane_state, IsLaneOf, IsSound, IsPairComplete};
+ghost use Rattle.nvm_model.specs.World.{new_lane};
+ghost use Rattle.session.specs.Run.{HasTurned, HasRun, HasStopped, IfTold, framed, unframed};
+ghost use Rattle.session.specs.Side.{HasMemory, memory_of};
+ghost use Rattle.session.specs.State.{lane_state, work_left, IsLaneOf, IsSound, IsPairComplete};
 ghost use Rattle.session.specs.Work.{IsSized};
 
+use crate::cutover::migrate;
 use crate::lines::{write_line, write_lines};
 use crate::turn::{is_complete, turn};
-use crate::{LaneScript, QueuePair};
-use guest_ram::Window;
+use crate::{Ending, LaneScript, QueuePair};
+use guest_ram::Ram;
 use mig_base::{Failed, Sink};
 use mig_medium::Medium;
 use nvm_model::{Line, Script};
 use transcript::LineBuf;
 
-/// Runs the script's one lane over one medium, from `ready` to `end`, on one thread.
+/// Runs the script's one lane, from `ready` to `end`, on one thread: over the source, and after a migration over the
+/// destination. Each side is a host's guest memory and its one medium.
 ///
 /// # Errors
 ///
@@ -24,32 +28,197 @@ use transcript::LineBuf;
 pub fn run<K: Sink, M: Medium>(
     script: &Script,
     ls: &LaneScript,
-    window: &mut Window,
     pair: &mut QueuePair,
-    medium: &mut M,
     events: &mut Vec<Line>,
+    from_ram: &mut Ram,
+    from: &mut M,
+    to_ram: &mut Ram,
+    to: &mut M,
+    output: &mut K,
+) -> Result<Ending, Failed>
+    requires head { IsHead script.now.head }
+    requires shelf { script.now.head.shelf ≡ script.now.head.blocks }
+    requires lane { IsLaneOf script.now ls.now }
+    requires sound { IsSound ls.now script.now.head.burst pair.old }
+    requires new { lane_state [] pair.old ≡ new_lane 0 }
+    requires from_memory { HasMemory ls.now from_ram.old }
+    requires to_memory { HasMemory ls.now to_ram.old }
+    requires from_size { (M.size from.old ≡ script.now.head.blocks) × IsSized (M.blocks from.old) (M.size from.old) }
+    requires to_size { (M.size to.old ≡ script.now.head.blocks) × IsSized (M.blocks to.old) (M.size to.old) }
+    requires room { 512 ≤ vec_capacity events.old }
+
+    ensures run { IfOk result (λ ending. IfTold (M.blocks from.old) (M.blocks to.old) (HasRun framed script.now ls.now.lane
+        (lane_state (memory_of from_ram.old) pair.old) ending (M.faults from.old) (M.faults to.old) (K.bytes output.old)
+        (M.blocks from.new) (memory_of from_ram.new) (M.blocks to.new) (memory_of to_ram.new) (M.faults from.new) (M.faults to.new) (K.bytes output.new))) }
+    ensures stopped { OnErr result (IfTold (M.blocks from.old) (M.blocks to.old) (HasStopped framed script.now ls.now.lane
+        (lane_state (memory_of from_ram.old) pair.old) (M.faults from.old) (M.faults to.old) (K.bytes output.old)
+        (M.faults from.new) (M.faults to.new) (K.bytes output.new))) }
+    ensures from_memory { HasMemory ls.now from_ram.new }
+    ensures to_memory { HasMemory ls.now to_ram.new }
+    ensures cause { HasCause (K.faults output.old) (K.faults output.new) result }
+{
+    let mut buf = LineBuf::new();
+    match write_lines(&[Line::Title, Line::Ready], &mut buf, output) {
+        Ok(()) => {}
+        Err(Failed) => return Err(Failed),
+    }
+    let ending = match run_body(
+        script, ls, pair, events, from_ram, from, to_ram, to, &mut buf, output,
+    ) {
+        Ok(ending) => ending,
+        Err(Failed) => return Err(Failed),
+    };
+    match write_line(&Line::End, &mut buf, output) {
+        Ok(()) => Ok(ending),
+        Err(Failed) => Err(Failed),
+    }
+}
+
+/// Runs what stands between the first two lines and the last.
+fn run_body<K: Sink, M: Medium>(
+    script: &Script,
+    ls: &LaneScript,
+    pair: &mut QueuePair,
+    events: &mut Vec<Line>,
+    from_ram: &mut Ram,
+    from: &mut M,
+    to_ram: &mut Ram,
+    to: &mut M,
+    buf: &mut LineBuf,
+    output: &mut K,
+) -> Result<Ending, Failed>
+    requires head { IsHead script.now.head }
+    requires shelf { script.now.head.shelf ≡ script.now.head.blocks }
+    requires lane { IsLaneOf script.now ls.now }
+    requires sound { IsSound ls.now script.now.head.burst pair.old }
+    requires new { lane_state [] pair.old ≡ new_lane 0 }
+    requires from_memory { HasMemory ls.now from_ram.old }
+    requires to_memory { HasMemory ls.now to_ram.old }
+    requires from_size { (M.size from.old ≡ script.now.head.blocks) × IsSized (M.blocks from.old) (M.size from.old) }
+    requires to_size { (M.size to.old ≡ script.now.head.blocks) × IsSized (M.blocks to.old) (M.size to.old) }
+    requires room { 512 ≤ vec_capacity events.old }
+
+    ensures run { IfOk result (λ ending. IfTold (M.blocks from.old) (M.blocks to.old) (HasRun unframed script.now ls.now.lane
+        (lane_state (memory_of from_ram.old) pair.old) ending (M.faults from.old) (M.faults to.old) (K.bytes output.old)
+        (M.blocks from.new) (memory_of from_ram.new) (M.blocks to.new) (memory_of to_ram.new) (M.faults from.new) (M.faults to.new) (K.bytes output.new))) }
+    ensures stopped { OnErr result (IfTold (M.blocks from.old) (M.blocks to.old) (HasStopped unframed script.now ls.now.lane
+        (lane_state (memory_of from_ram.old) pair.old) (M.faults from.old) (M.faults to.old) (K.bytes output.old)
+        (M.faults from.new) (M.faults to.new) (K.bytes output.new))) }
+    ensures from_memory { HasMemory ls.now from_ram.new }
+    ensures to_memory { HasMemory ls.now to_ram.new }
+    ensures cause { HasCause (K.faults output.old) (K.faults output.new) result }
+{
+    match script.head.migrate {
+        None => match run_turns(script, ls, pair, events, from_ram, from, buf, output) {
+            Ok(()) => Ok(Ending::Done),
+            Err(Failed) => Err(Failed),
+        },
+        Some(turn) => run_moving(
+            script, ls, turn, pair, events, from_ram, from, to_ram, to, buf, output,
+        ),
+    }
+}
+
+/// Runs a script that asks for a migration: turns over the source, the move before the turn with this number, or where
+/// the lane is complete, and turns over the side that goes on.
+fn run_moving<K: Sink, M: Medium>(
+    script: &Script,
+    ls: &LaneScript,
+    turn: u32,
+    pair: &mut QueuePair,
+    events: &mut Vec<Line>,
+    from_ram: &mut Ram,
+    from: &mut M,
+    to_ram: &mut Ram,
+    to: &mut M,
+    buf: &mut LineBuf,
+    output: &mut K,
+) -> Result<Ending, Failed>
+    requires asked { script.now.head.migrate ≡ Some turn }
+    requires head { IsHead script.now.head }
+    requires shelf { script.now.head.shelf ≡ script.now.head.blocks }
+    requires lane { IsLaneOf script.now ls.now }
+    requires sound { IsSound ls.now script.now.head.burst pair.old }
+    requires new { lane_state [] pair.old ≡ new_lane 0 }
+    requires from_memory { HasMemory ls.now from_ram.old }
+    requires to_memory { HasMemory ls.now to_ram.old }
+    requires from_size { (M.size from.old ≡ script.now.head.blocks) × IsSized (M.blocks from.old) (M.size from.old) }
+    requires to_size { (M.size to.old ≡ script.now.head.blocks) × IsSized (M.blocks to.old) (M.size to.old) }
+    requires room { 512 ≤ vec_capacity events.old }
+
+    ensures run { IfOk result (λ ending. IfTold (M.blocks from.old) (M.blocks to.old) (HasRun unframed script.now ls.now.lane
+        (lane_state (memory_of from_ram.old) pair.old) ending (M.faults from.old) (M.faults to.old) (K.bytes output.old)
+        (M.blocks from.new) (memory_of from_ram.new) (M.blocks to.new) (memory_of to_ram.new) (M.faults from.new) (M.faults to.new) (K.bytes output.new))) }
+    ensures stopped { OnErr result (IfTold (M.blocks from.old) (M.blocks to.old) (HasStopped unframed script.now ls.now.lane
+        (lane_state (memory_of from_ram.old) pair.old) (M.faults from.old) (M.faults to.old) (K.bytes output.old)
+        (M.faults from.new) (M.faults to.new) (K.bytes output.new))) }
+    ensures from_memory { HasMemory ls.now from_ram.new }
+    ensures to_memory { HasMemory ls.now to_ram.new }
+    ensures cause { HasCause (K.faults output.old) (K.faults output.new) result }
+{
+    match run_turns_before(script, ls, turn, pair, events, from_ram, from, buf, output) {
+        Ok(()) => {}
+        Err(Failed) => return Err(Failed),
+    }
+    let ending = match migrate(script, ls, from_ram, from, to_ram, to, buf, output) {
+        Ok(ending) => ending,
+        Err(Failed) => return Err(Failed),
+    };
+    match ending {
+        Ending::Done => match run_turns(script, ls, pair, events, to_ram, to, buf, output) {
+            Ok(()) => Ok(Ending::Done),
+            Err(Failed) => Err(Failed),
+        },
+        Ending::GaveUp => match run_turns(script, ls, pair, events, from_ram, from, buf, output) {
+            Ok(()) => Ok(Ending::GaveUp),
+            Err(Failed) => Err(Failed),
+        },
+    }
+}
+
+/// Runs turns until the lane is complete, or until the turn before the one with this number was done.
+fn run_turns_before<K: Sink, M: Medium>(
+    script: &Script,
+    ls: &LaneScript,
+    turn: u32,
+    pair: &mut QueuePair,
+    events: &mut Vec<Line>,
+    ram: &mut Ram,
+    medium: &mut M,
+    buf: &mut LineBuf,
     output: &mut K,
 ) -> Result<(), Failed>
     requires head { IsHead script.now.head }
     requires shelf { script.now.head.shelf ≡ script.now.head.blocks }
     requires lane { IsLaneOf script.now ls.now }
-    requires window { (window.old.lane ≡ ls.now.lane) × (length window.old.pages ≡ ls.now.set.pages + 2) }
     requires sound { IsSound ls.now script.now.head.burst pair.old }
     requires none { pair.old.running.items ≡ [] }
+    requires memory { HasMemory ls.now ram.old }
     requires size { (M.size medium.old ≡ script.now.head.blocks) × IsSized (M.blocks medium.old) (M.size medium.old) }
     requires room { 512 ≤ vec_capacity events.old }
 
-    ensures run { OnOk result (HasRun script.now ls.now.lane (length ls.now.acts.items)
-        (M.blocks medium.old) (M.faults medium.old) (lane_state (data_pages window.old) pair.old) (K.bytes output.old)
-        (M.blocks medium.new) (M.faults medium.new) (lane_state (data_pages window.new) pair.new) (K.bytes output.new)) }
-    ensures window { (window.new.lane ≡ window.old.lane) × (length window.new.pages ≡ length window.old.pages) }
+    ensures turned { OnOk result (HasTurned true script.now ls.now.lane
+        (M.blocks medium.old) (M.faults medium.old) (lane_state (memory_of ram.old) pair.old) (K.bytes output.old)
+        (M.blocks medium.new) (M.faults medium.new) (lane_state (memory_of ram.new) pair.new) (K.bytes output.new)) }
+    ensures stopped { OnErr result (HasTurned false script.now ls.now.lane
+        (M.blocks medium.old) (M.faults medium.old) (lane_state (memory_of ram.old) pair.old) (K.bytes output.old)
+        (M.blocks medium.new) (M.faults medium.new) (lane_state (memory_of ram.new) pair.new) (K.bytes output.new)) }
+    ensures sound { IsSound ls.now script.now.head.burst pair.new }
+    ensures none { pair.new.running.items ≡ [] }
+    ensures memory { HasMemory ls.now ram.new }
+    ensures size { (M.size medium.new ≡ M.size medium.old) × IsSized (M.blocks medium.new) (M.size medium.new) }
+    ensures capacity { vec_capacity events.new ≡ vec_capacity events.old }
     ensures cause { HasCause (K.faults output.old) (K.faults output.new) result }
 {
-    let mut buf = LineBuf::new();
-    write_line(&Line::Title, &mut buf, output)?;
-    write_line(&Line::Ready, &mut buf, output)?;
-    run_turns(script, ls, window, pair, medium, events, &mut buf, output)?;
-    write_line(&Line::End, &mut buf, output)?;
+    for _done in 1..turn {
+        if is_complete(ls, pair) {
+            return Ok(());
+        }
+        match run_turn(script, ls, pair, events, ram, medium, buf, output) {
+            Ok(()) => {}
+            Err(Failed) => return Err(Failed),
+        }
+    }
     Ok(())
 }
 
@@ -57,32 +226,83 @@ pub fn run<K: Sink, M: Medium>(
 fn run_turns<K: Sink, M: Medium>(
     script: &Script,
     ls: &LaneScript,
-    window: &mut Window,
     pair: &mut QueuePair,
-    medium: &mut M,
     events: &mut Vec<Line>,
+    ram: &mut Ram,
+    medium: &mut M,
     buf: &mut LineBuf,
     output: &mut K,
 ) -> Result<(), Failed>
     requires head { IsHead script.now.head }
     requires shelf { script.now.head.shelf ≡ script.now.head.blocks }
     requires lane { IsLaneOf script.now ls.now }
-    requires window { (window.old.lane ≡ ls.now.lane) × (length window.old.pages ≡ ls.now.set.pages + 2) }
     requires sound { IsSound ls.now script.now.head.burst pair.old }
     requires none { pair.old.running.items ≡ [] }
+    requires memory { HasMemory ls.now ram.old }
     requires size { (M.size medium.old ≡ script.now.head.blocks) × IsSized (M.blocks medium.old) (M.size medium.old) }
     requires room { 512 ≤ vec_capacity events.old }
 
-    ensures turns { OnOk result (HasTurned script.now ls.now.lane
-        (M.blocks medium.old) (M.faults medium.old) (lane_state (data_pages window.old) pair.old) (K.bytes output.old)
-        (M.blocks medium.new) (M.faults medium.new) (lane_state (data_pages window.new) pair.new) (K.bytes output.new)) }
+    ensures turned { OnOk result (HasTurned true script.now ls.now.lane
+        (M.blocks medium.old) (M.faults medium.old) (lane_state (memory_of ram.old) pair.old) (K.bytes output.old)
+        (M.blocks medium.new) (M.faults medium.new) (lane_state (memory_of ram.new) pair.new) (K.bytes output.new)) }
+    ensures stopped { OnErr result (HasTurned false script.now ls.now.lane
+        (M.blocks medium.old) (M.faults medium.old) (lane_state (memory_of ram.old) pair.old) (K.bytes output.old)
+        (M.blocks medium.new) (M.faults medium.new) (lane_state (memory_of ram.new) pair.new) (K.bytes output.new)) }
+    ensures sound { IsSound ls.now script.now.head.burst pair.new }
+    ensures none { pair.new.running.items ≡ [] }
+    ensures memory { HasMemory ls.now ram.new }
+    ensures size { (M.size medium.new ≡ M.size medium.old) × IsSized (M.blocks medium.new) (M.size medium.new) }
     ensures complete { OnOk result (IsPairComplete ls.now pair.new) }
-    ensures window { (window.new.lane ≡ window.old.lane) × (length window.new.pages ≡ length window.old.pages) }
+    ensures capacity { vec_capacity events.new ≡ vec_capacity events.old }
     ensures cause { HasCause (K.faults output.old) (K.faults output.new) result }
 {
     'turns: while !is_complete(ls, pair) {
-        turn(script, ls, window, pair, medium, events);
-        write_lines(events, buf, output)?;
+        match run_turn(script, ls, pair, events, ram, medium, buf, output) {
+            Ok(()) => {}
+            Err(Failed) => return Err(Failed),
+        }
     }
     Ok(())
+}
+
+/// Does a turn, and writes the lines of its events.
+fn run_turn<K: Sink, M: Medium>(
+    script: &Script,
+    ls: &LaneScript,
+    pair: &mut QueuePair,
+    events: &mut Vec<Line>,
+    ram: &mut Ram,
+    medium: &mut M,
+    buf: &mut LineBuf,
+    output: &mut K,
+) -> Result<(), Failed>
+    requires head { IsHead script.now.head }
+    requires shelf { script.now.head.shelf ≡ script.now.head.blocks }
+    requires lane { IsLaneOf script.now ls.now }
+    requires sound { IsSound ls.now script.now.head.burst pair.old }
+    requires none { pair.old.running.items ≡ [] }
+    requires memory { HasMemory ls.now ram.old }
+    requires size { (M.size medium.old ≡ script.now.head.blocks) × IsSized (M.blocks medium.old) (M.size medium.old) }
+    requires room { 512 ≤ vec_capacity events.old }
+
+    ensures turned { OnOk result (HasTurned true script.now ls.now.lane
+        (M.blocks medium.old) (M.faults medium.old) (lane_state (memory_of ram.old) pair.old) (K.bytes output.old)
+        (M.blocks medium.new) (M.faults medium.new) (lane_state (memory_of ram.new) pair.new) (K.bytes output.new)) }
+    ensures stopped { OnErr result (HasTurned false script.now ls.now.lane
+        (M.blocks medium.old) (M.faults medium.old) (lane_state (memory_of ram.old) pair.old) (K.bytes output.old)
+        (M.blocks medium.new) (M.faults medium.new) (lane_state (memory_of ram.new) pair.new) (K.bytes output.new)) }
+    ensures sound { IsSound ls.now script.now.head.burst pair.new }
+    ensures none { pair.new.running.items ≡ [] }
+    ensures memory { HasMemory ls.now ram.new }
+    ensures size { (M.size medium.new ≡ M.size medium.old) × IsSized (M.blocks medium.new) (M.size medium.new) }
+    ensures onward { (IsPairComplete ls.now pair.old → ⊥) → work_left ls.now pair.new < work_left ls.now pair.old }
+    ensures capacity { vec_capacity events.new ≡ vec_capacity events.old }
+    ensures cause { HasCause (K.faults output.old) (K.faults output.new) result }
+{
+    let windows = ram.windows();
+    turn(script, ls, &mut windows[0], pair, medium, events);
+    match write_lines(events, buf, output) {
+        Ok(()) => Ok(()),
+        Err(Failed) => Err(Failed),
+    }
 }

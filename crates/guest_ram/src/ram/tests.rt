@@ -28,6 +28,15 @@ fn write_in_host<M>(host: &mut Host<M>, i: usize)
     write_first(&mut windows[i]);
 }
 
+// The first byte of a window page, if it is there.
+fn first_byte(window: &Window, j: u16) -> Option<u8> {
+    if u32::from(j) < window.page_count() {
+        Some(window.page(j)[0])
+    } else {
+        None
+    }
+}
+
 // Entry i of the list page in data page 3 names data page p of lane 2, whose data begins at 33,562,624.
 fn write_entry(window: &mut Window, i: u16, p: u64)
     requires there { 5 < length window.old.pages }
@@ -62,6 +71,26 @@ fn makes_and_writes(rt: HostRuntime) -> Result<(), Fail> {
     assert_eq!(rt; ram.window(one).page(2)[0], 7);
     assert_eq!(rt; ram.window(one).page(2)[1], 0);
     assert_eq!(rt; ram.window(two).page(13), &[0; 4096]);
+    Ok(())
+}
+
+#[test]
+fn copies_a_page(rt: HostRuntime) -> Result<(), Fail> {
+    let ram = Ram::make(rt.alloc(), &[1, 2]).ok().ok_or("memory")?;
+    let mut from = Host {
+        shelves: Vec::<u8>::new(rt.alloc()),
+        ram,
+    };
+    let mut to = Ram::make(rt.alloc(), &[1, 2]).ok().ok_or("memory")?;
+    write_in_host(&mut from, 1);
+    assert_eq!(rt; from.ram.page_count(), 7);
+    assert_eq!(rt; to.page_count(), 7);
+    from.ram.copy_page(4, &mut to);
+    let two = LaneNo::new(2).ok_or("lane 2")?;
+    assert_eq!(rt; first_byte(to.window(two), 2), Some(0));
+    from.ram.copy_page(5, &mut to);
+    assert_eq!(rt; first_byte(to.window(two), 2), Some(7));
+    assert_eq!(rt; first_byte(to.window(two), 3), Some(0));
     Ok(())
 }
 

@@ -1,4 +1,4 @@
-use Rattle.std.proofs.Common.{◌≡◌, subst, sym}
+use Rattle.std.proofs.Common.{subst, sym}
 use Rattle.engine.specs.Built.{IsTaken}
 use Rattle.engine.proofs.ReadLemmas.{bad_is_neither, read_is}
 use Rattle.engine.proofs.reading.take_script.Goals as goal
@@ -10,4 +10,4 @@ pub returns-in-Some-clause-refusal : goal.returns-in-Some-clause-refusal
 returns-in-Some-clause-refusal c = λ s taken e.
     let same = read_is c.in-Ok.script s (c.in-Ok.ensures.only s taken.script e) in
     let built = subst IsTaken (sym same) taken in
-    c.in-Some.ensures.unbuilt built.shelf built.lanes built.mix built.migrate
+    c.in-Some.ensures.unbuilt built.built

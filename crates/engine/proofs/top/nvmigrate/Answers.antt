@@ -1,16 +1,37 @@
-use Rattle.std.proofs.Common.{map, ap}
-use Rattle.engine.proofs.TopLemmas.{history, complete, hosts, rose}
+use Rattle.std.proofs.Common.{ap}
+use Rattle.engine.specs.Ended.{gives_up}
+use Rattle.engine.proofs.TopLemmas.{history, complete, hosts, rose, gave_up, began}
 use Rattle.engine.proofs.top.nvmigrate.Goals as goal
 
-pub returns-in-Ok-run_hosts-clause-history : goal.returns-in-Ok-run_hosts-clause-history
-returns-in-Ok-run_hosts-clause-history g c = history _ _ _ _ _ _ _ _ _ c.in-Ok.ensures.taken c.in-Ok.ensures.spelled c.in-Ok-run_hosts.ensures.ran
+pub returns-in-Ok-Done-clause-history : goal.returns-in-Ok-Done-clause-history
+returns-in-Ok-Done-clause-history g c = history (record { taken = c.in-Ok.ensures.taken; spelled = c.in-Ok.ensures.spelled; ended = c.in-Ok-Done.ensures.ran })
 
-pub returns-in-Ok-run_hosts-clause-complete : goal.returns-in-Ok-run_hosts-clause-complete
-returns-in-Ok-run_hosts-clause-complete g c = complete _ _ _ _ _ _ _ _ _ c.in-Ok.ensures.taken c.in-Ok.ensures.spelled c.in-Ok-run_hosts.ensures.ran
+pub returns-in-Ok-Done-clause-complete : goal.returns-in-Ok-Done-clause-complete
+returns-in-Ok-Done-clause-complete g c = complete (record { taken = c.in-Ok.ensures.taken; spelled = c.in-Ok.ensures.spelled; ended = c.in-Ok-Done.ensures.ran })
 
-pub returns-in-Ok-run_hosts-clause-hosts : goal.returns-in-Ok-run_hosts-clause-hosts
-returns-in-Ok-run_hosts-clause-hosts g c = hosts _ _ _ _ _ _ _ _ _ c.in-Ok.ensures.taken c.in-Ok.ensures.spelled c.in-Ok-run_hosts.ensures.ran
+pub returns-in-Ok-Done-clause-hosts : goal.returns-in-Ok-Done-clause-hosts
+returns-in-Ok-Done-clause-hosts g c = hosts (record { taken = c.in-Ok.ensures.taken; spelled = c.in-Ok.ensures.spelled; ended = c.in-Ok-Done.ensures.ran })
 
-pub returns-in-Ok-run_hosts-clause-faults : goal.returns-in-Ok-run_hosts-clause-faults
-returns-in-Ok-run_hosts-clause-faults g c =
-    rose _ _ _ _ _ _ _ _ _ _ _ c.in-Ok.ensures.taken c.in-Ok.ensures.spelled (ap (λ shelves. map g.M.Medium.faults shelves.items) c.in-Ok-run_hosts.ensures.other) c.in-Ok-run_hosts.ensures.ran
+pub returns-in-Ok-Done-clause-faults : goal.returns-in-Ok-Done-clause-faults
+returns-in-Ok-Done-clause-faults g c = rose (record { taken = c.in-Ok.ensures.taken; spelled = c.in-Ok.ensures.spelled; ended = c.in-Ok-Done.ensures.ran })
+
+pub returns-in-Ok-Done-clause-gave_up : goal.returns-in-Ok-Done-clause-gave_up
+returns-in-Ok-Done-clause-gave_up g c = gave_up (record { taken = c.in-Ok.ensures.taken; spelled = c.in-Ok.ensures.spelled; ended = c.in-Ok-Done.ensures.ran }) (ap gives_up c.in-Ok-Done.field-0-is)
+
+pub returns-in-Ok-GaveUp-clause-history : goal.returns-in-Ok-GaveUp-clause-history
+returns-in-Ok-GaveUp-clause-history g c = history (record { taken = c.in-Ok.ensures.taken; spelled = c.in-Ok.ensures.spelled; ended = c.in-Ok-GaveUp.ensures.ran })
+
+pub returns-in-Ok-GaveUp-clause-complete : goal.returns-in-Ok-GaveUp-clause-complete
+returns-in-Ok-GaveUp-clause-complete g c = complete (record { taken = c.in-Ok.ensures.taken; spelled = c.in-Ok.ensures.spelled; ended = c.in-Ok-GaveUp.ensures.ran })
+
+pub returns-in-Ok-GaveUp-clause-hosts : goal.returns-in-Ok-GaveUp-clause-hosts
+returns-in-Ok-GaveUp-clause-hosts g c = hosts (record { taken = c.in-Ok.ensures.taken; spelled = c.in-Ok.ensures.spelled; ended = c.in-Ok-GaveUp.ensures.ran })
+
+pub returns-in-Ok-GaveUp-clause-faults : goal.returns-in-Ok-GaveUp-clause-faults
+returns-in-Ok-GaveUp-clause-faults g c = rose (record { taken = c.in-Ok.ensures.taken; spelled = c.in-Ok.ensures.spelled; ended = c.in-Ok-GaveUp.ensures.ran })
+
+pub returns-in-Ok-GaveUp-clause-gave_up : goal.returns-in-Ok-GaveUp-clause-gave_up
+returns-in-Ok-GaveUp-clause-gave_up g c = gave_up (record { taken = c.in-Ok.ensures.taken; spelled = c.in-Ok.ensures.spelled; ended = c.in-Ok-GaveUp.ensures.ran }) (ap gives_up c.in-Ok-GaveUp.field-0-is)
+
+pub returns-clause-sink : goal.returns-clause-sink
+returns-clause-sink g c = began _ c.in-Ok.ensures.taken c.in-Ok.ensures.spelled c.in-Err-run_hosts.ensures.broken

@@ -1,4 +1,4 @@
-use Rattle.std.proofs.Common.{◌≡◌, ◌*◌, ◌/◌, ◌≤◌, ℕ, ap, sym, ◌∙◌, arith}
+use Rattle.std.proofs.Common.{◌≡◌, ◌*◌, ◌≤◌, ℕ, ap, sym, ◌∙◌, arith}
 use Rattle.engine.proofs.WordLemmas.{sizes_one, shelves_are}
 use Rattle.engine.proofs.words.sizes.Goals as goal
 use Rattle.engine.proofs.words.sizes.Goals.{then-blocks-eq0-via-then-blocks-eq0, then-blocks-eq0-via-else-blocks-eq0+then-blocks-gt131072, then-blocks-eq0-via-else-blocks-eq0+else-blocks-gt131072+then-shelf-eq0, then-blocks-eq0-via-else-blocks-eq0+else-blocks-gt131072+else-shelf-eq0+then-shelf-gt65536, then-shelves-gt64-via-then-shelves-gt64, then-shelves-gt64-via-else-shelves-gt64+then-shelves-shelf}

@@ -1,4 +1,4 @@
-use Rattle.std.proofs.Common.{◌≡◌, ◌+◌, ◌<◌, ◌≤◌, All, length, vec_len, vec_capacity}
+use Rattle.std.proofs.Common.{◌≡◌, ◌+◌, ◌≤◌, All, length, vec_len, vec_capacity}
 use Rattle.guest_ram.specs.Window.{data_pages}
 use Rattle.session.specs.Goes.{GoesInLane}
 use Rattle.session.specs.State.{lane_state, IsSound, IsFetched, work_left}

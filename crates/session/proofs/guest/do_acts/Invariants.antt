@@ -1,7 +1,7 @@
 use Rattle.std.proofs.Common.{◌≡◌, ◌+◌, ◌<◌, ◌≤◌, length, vec_len, vec_capacity}
 use Rattle.guest_ram.specs.Window.{data_pages}
 use Rattle.session.specs.Goes.{GoesInLane}
-use Rattle.session.specs.State.{lane_state, IsSound, IsPairQuiet, OnlyActed, work_left}
+use Rattle.session.specs.State.{lane_state, IsSound, OnlyActed, work_left}
 use Rattle.session.proofs.guest.do_acts.Given as goal
 
 abbrev pub invariant-loop-done : goal.invariant-loop-done

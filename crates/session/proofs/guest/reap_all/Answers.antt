@@ -1,4 +1,4 @@
-use Rattle.std.proofs.Common.{arith, rules}
+use Rattle.std.proofs.Common.{rules}
 use Rattle.session.proofs.GoesLemmas.{lane_more}
 use Rattle.session.proofs.guest.reap_all.Goals as goal
 

@@ -1,7 +1,6 @@
-use Rattle.std.proofs.Common.{◌≡◌, ◌≤◌, All, take}
+use Rattle.std.proofs.Common.{◌≡◌, ◌≤◌, take}
 use Rattle.mig_base.specs.Stream.{with_more}
-use Rattle.nvm_model.specs.declared.line.Line.{Line}
-use Rattle.nvm_model.specs.Text.{text_of, IsLine, HasForm}
+use Rattle.nvm_model.specs.Text.{text_of}
 use Rattle.session.proofs.lines.write_lines.Given as goal
 
 abbrev pub invariant-loop-line : goal.invariant-loop-line
@@ -9,6 +8,5 @@ invariant-loop-line g l =
     let sink = g.K.Sink in
     record {
       written : sink.bytes l.output ≡ with_more (text_of (take l.line-index l.lines)) (sink.bytes l.fn.output);
-      form : All (λ (l : Line). HasForm l → IsLine l) (take l.line-index l.lines);
       later : sink.faults l.fn.output ≤ sink.faults l.output;
     }

@@ -1,4 +1,4 @@
-use Rattle.std.proofs.Common.{◌≡◌, ℕ, ◌+◌, List, Option, subst, sym, ap}
+use Rattle.std.proofs.Common.{ℕ, ◌+◌, List, Option, subst, sym}
 use Rattle.nvm_model.specs.Memory.{zero_block}
 use Rattle.nvm_model.specs.Piece.{data_block, done_blocks}
 use Rattle.guest_ram.specs.Window.{data_pages}

@@ -1,7 +1,7 @@
 use Rattle.std.proofs.Common.{◌≡◌, ℕ, ◌+◌, ◌++◌, List, length, Option, subst, ap, sym, ◌∙◌, arith, rules}
 use Rattle.std.specs.Option.{IfSome}
 use Rattle.sha2.specs.Hashers.{Holds256}
-use Rattle.nvm_model.specs.Piece.{read_blocks, bytes_of, block_at}
+use Rattle.nvm_model.specs.Piece.{bytes_of, block_at}
 use Rattle.guest_ram.specs.Window.{data_pages}
 use Rattle.session.proofs.PieceLemmas.{bytes_of_more, read_blocks_more, if_some_both}
 use Rattle.session.proofs.piece.read.Goals as goal

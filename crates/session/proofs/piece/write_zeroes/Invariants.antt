@@ -1,4 +1,4 @@
-use Rattle.std.proofs.Common.{◌≡◌, ◌+◌, ◌≤◌}
+use Rattle.std.proofs.Common.{◌≡◌, ◌≤◌}
 use Rattle.nvm_model.specs.Memory.{zero_block}
 use Rattle.session.specs.Work.{put_told}
 use Rattle.session.proofs.piece.write_zeroes.Given as goal

@@ -1,4 +1,4 @@
-use Rattle.std.proofs.Common.{◌≡◌, ap, sym, ◌∙◌}
+use Rattle.std.proofs.Common.{ap, sym, ◌∙◌}
 use Rattle.nvm_model.specs.declared.command.Command.{Command}
 use Rattle.session.specs.State.{no_command}
 use Rattle.session.proofs.WorkLemmas.{finished_already}

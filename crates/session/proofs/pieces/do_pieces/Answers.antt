@@ -1,4 +1,4 @@
-use Rattle.std.proofs.Common.{◌≡◌, ◌+◌, ◌≤◌, ◌<◌, length, drop, take, get_or, subst, ap, sym, ◌∙◌, add-zero, arith, rules}
+use Rattle.std.proofs.Common.{◌≡◌, ◌≤◌, ◌<◌, length, drop, take, get_or, subst, ap, sym, ◌∙◌, add-zero, arith, rules}
 use Rattle.std.proofs.lemmas.List.{get_or-drop, drop-drop, length-drop, take_all}
 use Rattle.std.proofs.lemmas.List.Elements.{All-same, All-drop}
 use Rattle.nvm_model.specs.declared.command.Command.{Command}

@@ -1,10 +1,10 @@
-use Rattle.std.proofs.Common.{◌≡◌, ℕ, ◌+◌, ◌++◌, [], ◌∷◌, List, All, take, drop, ◌≤◌, subst, sym, ap, ◌∙◌, arith}
+use Rattle.std.proofs.Common.{◌≡◌, ◌+◌, ◌++◌, [], ◌∷◌, List, All, take, drop, ◌≤◌, subst, sym, ap, ◌∙◌, arith}
 use Rattle.std.specs.Prelude.{slice_set}
 use Rattle.std.proofs.lemmas.List.{drop-set-lt}
 use Rattle.nvm_model.specs.declared.command.Command.{Command}
 use Rattle.nvm_model.specs.declared.line.Line.{Line}
 use Rattle.nvm_model.specs.declared.line.Line.TheVariants as line
-use Rattle.nvm_model.specs.Piece.{pieces_left, after_piece}
+use Rattle.nvm_model.specs.Piece.{pieces_left}
 use Rattle.guest_ram.specs.Window.{data_pages}
 use Rattle.session.specs.Goes.{Goes}
 use Rattle.session.specs.State.{lane_state}

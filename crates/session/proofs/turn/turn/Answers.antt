@@ -1,10 +1,10 @@
-use Rattle.std.proofs.Common.{◌≡◌, ◌+◌, ◌<◌, ◌≤◌, List, ⊎_elim, length, vec_len, subst, ap, ◌∙◌, arith}
+use Rattle.std.proofs.Common.{◌≡◌, ◌<◌, ◌≤◌, List, ⊎_elim, length, vec_len, subst, ap, ◌∙◌, arith}
 use Rattle.std.proofs.lemmas.Bool.{cases_lt}
 use Rattle.nvm_model.specs.declared.line.Line.{Line}
 use Rattle.guest_ram.specs.Window.{data_pages}
 use Rattle.session.specs.declared.queue_pair.QueuePair.{QueuePair}
 use Rattle.session.specs.Goes.{Goes}
-use Rattle.session.specs.State.{lane_state, IsPairQuiet, work_left}
+use Rattle.session.specs.State.{lane_state, IsPairQuiet}
 use Rattle.session.proofs.GoesLemmas.{goes_more}
 use Rattle.session.proofs.turn.turn.Goals as goal
 

@@ -1,0 +1,75 @@
+use Rattle.std.proofs.Common.{◌≡◌, ℕ, zero, suc, ◌+◌, ◌-◌, ◌<◌, ◌≤◌, List, [], ◌∷◌, ◌++◌, length, take, set, get_or, map, refl, sym, ap, ◌∙◌, arith, zero-add, drop, length-append}
+use Rattle.std.proofs.lemmas.List.{length-set, map-set, set-get_or, set-append_left, set-append_right, get_or-map, get_or_default, take_at}
+use Rattle.std.proofs.lemmas.List.Concat.{get_or-flat_map}
+use Rattle.nvm_model.specs.Memory.{page_at}
+use Rattle.guest_ram.specs.Window.{WindowState, no_window}
+use Rattle.guest_ram.specs.Ram.{all_pages, shape}
+use Rattle.guest_ram.specs.Place.{IsPlace}
+
+-- a page that is put in its window is put in its place among all
+pub all_pages-set : (ws : List WindowState) (i j : ℕ) (w : WindowState) (bytes : List ℕ) → i < length ws → j < length (get_or ws i no_window).pages
+    → w.pages ≡ set (get_or ws i no_window).pages j bytes → all_pages (set ws i w) ≡ set (all_pages ws) (length (all_pages (take i ws)) + j) bytes
+all_pages-set [] i j w bytes there within same = absurd (omega arith)
+all_pages-set (v ∷ ws) zero j w bytes there within same =
+    ap (λ (p : List (List ℕ)). p ++ all_pages ws) same
+    ∙ sym (set-append_left v.pages (all_pages ws) j bytes within)
+    ∙ ap (λ n. set (v.pages ++ all_pages ws) n bytes) (sym (zero-add j))
+all_pages-set (v ∷ ws) (suc i) j w bytes there within same =
+    let before = all_pages (take i ws) in
+    let n : ℕ = length (v.pages ++ before) + j in
+    let e : n - length v.pages ≡ length before + j = omega (arith, length-append v.pages before) in
+    let le : length v.pages ≤ n = omega (arith, length-append v.pages before) in
+    ap (λ p. v.pages ++ p) (all_pages-set ws i j w bytes (omega arith) within same)
+    ∙ ap (λ m. v.pages ++ set (all_pages ws) m bytes) (sym e)
+    ∙ sym (set-append_right v.pages (all_pages ws) (length v.pages) n bytes refl le)
+
+-- a page by its number over all windows
+pub page_at-all_pages : (ws : List WindowState) (page i j : ℕ) → IsPlace ws page i j → page_at (all_pages ws) page ≡ page_at (get_or ws i no_window).pages j
+page_at-all_pages ws page i j h =
+    ap (page_at (all_pages ws)) h.number
+    ∙ get_or-flat_map (λ (w : WindowState). w.pages) ws i j no_window [] h.there h.within
+
+pub shape-set : (ws : List WindowState) (i j : ℕ) (w : WindowState) (bytes : List ℕ) → i < length ws → w.lane ≡ (get_or ws i no_window).lane
+    → w.pages ≡ set (get_or ws i no_window).pages j bytes → shape (set ws i w) ≡ shape ws
+shape-set ws i j w bytes there lane pages =
+    let of : WindowState → ℕ × ℕ = λ v. (v.lane, length v.pages) in
+    let count : length w.pages ≡ length (get_or ws i no_window).pages = ap length pages ∙ length-set (get_or ws i no_window).pages j bytes in
+    let same : of w ≡ of (get_or ws i no_window) = cc in
+    map-set of ws i w
+    ∙ ap (set (map of ws) i) (same ∙ sym (get_or-map of ws i no_window (0, 0) there))
+    ∙ set-get_or (map of ws) i (0, 0)
+
+-- what comes back of windows that were lent, where one of them was changed
+lent_back : (ws : List WindowState) (i : ℕ) (w : WindowState) → take (length ws) (set ws i w ++ drop (length (set ws i w)) ws) ≡ set ws i w
+lent_back ws i w = take_at (set ws i w) (drop (length (set ws i w)) ws) (length ws) (length-set ws i w)
+
+-- the window w, which was v, has the page of another memory's window u
+pub record HasCopy (from to : List WindowState) (page i j k l : ℕ) (u v w : WindowState) (bytes : List ℕ) : Type 0 where
+  pub source : IsPlace from page i j
+  pub target : IsPlace to page k l
+  pub source_is : u ≡ get_or from i u
+  pub bytes_is : bytes ≡ page_at u.pages j
+  pub target_is : v ≡ get_or to k v
+  pub lane : w.lane ≡ v.lane
+  pub pages : w.pages ≡ set v.pages l bytes
+
+pub pages-copied : (from to : List WindowState) (page i j k l : ℕ) (u v w : WindowState) (bytes : List ℕ) → HasCopy from to page i j k l u v w bytes
+    → all_pages (take (length to) (set to k w ++ drop (length (set to k w)) to)) ≡ set (all_pages to) page (page_at (all_pages from) page)
+pages-copied from to page i j k l u v w bytes h =
+    let source : u ≡ get_or from i no_window = h.source_is ∙ get_or_default from i u no_window h.source.there in
+    let target : v ≡ get_or to k no_window = h.target_is ∙ get_or_default to k v no_window h.target.there in
+    let put : w.pages ≡ set (get_or to k no_window).pages l bytes = cc in
+    let same : page_at (all_pages from) page ≡ bytes =
+    page_at-all_pages from page i j h.source ∙ ap (λ (x : WindowState). page_at x.pages j) (sym source) ∙ sym h.bytes_is in
+    ap all_pages (lent_back to k w)
+    ∙ all_pages-set to k l w bytes h.target.there h.target.within put
+    ∙ ap (λ n. set (all_pages to) n bytes) (sym h.target.number)
+    ∙ ap (set (all_pages to) page) (sym same)
+
+pub shape-copied : (from to : List WindowState) (page i j k l : ℕ) (u v w : WindowState) (bytes : List ℕ) → HasCopy from to page i j k l u v w bytes
+    → shape (take (length to) (set to k w ++ drop (length (set to k w)) to)) ≡ shape to
+shape-copied from to page i j k l u v w bytes h =
+    let target : v ≡ get_or to k no_window = h.target_is ∙ get_or_default to k v no_window h.target.there in
+    let lane : w.lane ≡ (get_or to k no_window).lane = cc in
+    let put : w.pages ≡ set (get_or to k no_window).pages l bytes = cc in
+    ap shape (lent_back to k w) ∙ shape-set to k l w bytes h.target.there lane put

@@ -1,0 +1,82 @@
+use Rattle.std.proofs.Common.{◌≡◌, inl, inr, add-zero, ℕ, ◌+◌, ◌<◌, ◌≤◌, List, [], ◌∷◌, ◌++◌, Option, Some, None, length, take, drop, get_or, slice_set, refl, sym, ap, subst, ◌∙◌, arith}
+use Rattle.std.proofs.lemmas.List.{take_more, take_more_set, take_all, length-append}
+use Rattle.std.proofs.Math.Seq.{take-append_seam, drop-append_seam}
+use Rattle.guest_ram.specs.Ram.{all_pages, shape}
+use Rattle.guest_ram.specs.Window.{WindowState}
+use Rattle.nvm_model.specs.declared.script.Script.{Script}
+use Rattle.nvm_model.specs.History.{faults_shown}
+use Rattle.session.specs.declared.ending.Ending.{Ending}
+use Rattle.session.specs.declared.ending.Ending.TheVariants.{Done, GaveUp}
+use Rattle.session.specs.Run.{RoseTogether, moving_lines}
+use Rattle.session.specs.Side.{AreCopied, CopiesBlock, OneRose}
+use Rattle.session.specs.Work.{IsSized}
+
+-- one element more was copied
+pub one_copied : {X : Type 0} (n : ℕ) (from to : List X) (d : X) → n < length from → n < length to → take n to ≡ take n from → take (n + 1) (slice_set to n (get_or from n d)) ≡ take (n + 1) from
+one_copied {X} n from to d inside room before =
+    take_more_set to n (get_or from n d) room ∙ ap (λ (front : List X). front ++ get_or from n d ∷ []) before ∙ sym (take_more from n d inside)
+
+pub none_copied : (from to : Option (List (List ℕ))) → AreCopied 0 from to to
+none_copied None to = tt
+none_copied (Some from) None = tt
+none_copied (Some from) (Some to) = refl
+
+pub block_copied : (n size : ℕ) (from old_to to new_to : Option (List (List ℕ))) → n < size → IsSized from size → IsSized to size → AreCopied n from old_to to → CopiesBlock n from to new_to → AreCopied (n + 1) from old_to new_to
+block_copied n size None old_to to new_to there from_sized to_sized before copies = tt
+block_copied n size (Some from) None to new_to there from_sized to_sized before copies = tt
+block_copied n size (Some from) (Some old_to) None new_to there from_sized to_sized before copies = absurd before
+block_copied n size (Some from) (Some old_to) (Some to) new_to there from_sized to_sized before copies =
+    subst (λ (t : Option (List (List ℕ))). AreCopied (n + 1) (Some from) (Some old_to) t) (sym copies) (one_copied n from to [] (omega (arith, from_sized)) (omega (arith, to_sized)) before)
+
+-- all blocks were copied
+pub all_copied : (n : ℕ) (from to : List (List ℕ)) → length from ≡ n → length to ≡ n → take n to ≡ take n from → to ≡ from
+all_copied n from to from_size to_size same = sym (take_all n to (omega arith)) ∙ same ∙ take_all n from (omega arith)
+
+-- two lists with a first element are the same
+heads : {X : Type 0} {x y : X} {xs ys : List X} → x ∷ xs ≡ y ∷ ys → x ≡ y
+heads e = cc
+
+tails : {X : Type 0} {x y : X} {xs ys : List X} → x ∷ xs ≡ y ∷ ys → xs ≡ ys
+tails e = cc
+
+-- memories of one shape have as many pages
+pub as_many_pages : (a b : List WindowState) → shape a ≡ shape b → length (all_pages a) ≡ length (all_pages b)
+as_many_pages [] [] same = refl
+as_many_pages [] (w ∷ b) same = cc
+as_many_pages (v ∷ a) [] same = cc
+as_many_pages (v ∷ a) (w ∷ b) same =
+    length-append v.pages (all_pages a) ∙ ap (λ (n : ℕ). n + length (all_pages a)) (ap (λ (s : ℕ × ℕ). s.1) (heads same))
+    ∙ ap (λ (n : ℕ). length w.pages + n) (as_many_pages a b (tails same)) ∙ sym (length-append w.pages (all_pages b))
+
+-- memories of one shape with the same pages are the same
+pub same_memory : (a b : List WindowState) → shape a ≡ shape b → all_pages a ≡ all_pages b → a ≡ b
+same_memory [] [] same pages = refl
+same_memory [] (w ∷ b) same pages = cc
+same_memory (v ∷ a) [] same pages = cc
+same_memory (v ∷ a) (w ∷ b) same pages =
+    let long : length v.pages ≡ length w.pages = ap (λ (s : ℕ × ℕ). s.1) (heads same) in
+    let first : v.pages ≡ w.pages = sym (take-append_seam v.pages (all_pages a)) ∙ ap (λ (ps : List (List ℕ)). take (length v.pages) ps) pages
+    ∙ ap (λ (n : ℕ). take n (w.pages ++ all_pages b)) long ∙ take-append_seam w.pages (all_pages b) in
+    let others : all_pages a ≡ all_pages b = sym (drop-append_seam v.pages (all_pages a)) ∙ ap (λ (ps : List (List ℕ)). drop (length v.pages) ps) pages
+    ∙ ap (λ (n : ℕ). drop n (w.pages ++ all_pages b)) long ∙ drop-append_seam w.pages (all_pages b) in
+    let window : v ≡ w = ap (λ (k : ℕ). record { lane = k; pages = v.pages }) (ap (λ (s : ℕ × ℕ). s.0) (heads same)) ∙ ap (λ (ps : List (List ℕ)). record { lane = w.lane; pages = ps }) first in
+    ap (λ (x : WindowState). x ∷ a) window ∙ ap (λ (ws : List WindowState). w ∷ ws) (same_memory a b (tails same) others)
+
+-- all pages were copied
+pub all_pages_copied : (n : ℕ) (from to : List WindowState) → shape to ≡ shape from → n ≡ length (all_pages from) → take n (all_pages to) ≡ take n (all_pages from) → to ≡ from
+all_pages_copied n from to same all copied =
+    let many = as_many_pages to from same in
+    same_memory to from same (all_copied n (all_pages from) (all_pages to) (sym all) (many ∙ sym all) copied)
+
+-- the pages of the one window
+pub one_window : (ram : List WindowState) (k n : ℕ) → shape ram ≡ (k, n) ∷ [] → length (all_pages ram) ≡ n
+one_window [] k n same = cc
+one_window (w ∷ []) k n same = length-append w.pages [] ∙ add-zero (length w.pages) ∙ ap (λ (s : ℕ × ℕ). s.1) (heads same)
+one_window (w ∷ v ∷ ram) k n same = cc
+
+-- a move shows a fault only where one rose
+pub moves_rose : (s : Script) (k : ℕ) (ending : Ending) (from to new_from new_to : ℕ) → from ≤ new_from → to ≤ new_to → OneRose ending from to new_from new_to →
+    RoseTogether (faults_shown (moving_lines s k ending)) from to new_from new_to
+moves_rose s k Done from to new_from new_to from_later to_later rose = λ small other. omega (arith, from_later, to_later)
+moves_rose s k GaveUp from to new_from new_to from_later to_later (inl rose) = λ small other. omega (arith, from_later, to_later, rose, small)
+moves_rose s k GaveUp from to new_from new_to from_later to_later (inr rose) = λ small other. omega (arith, from_later, to_later, rose, other)

@@ -1,0 +1,337 @@
+use Rattle.std.proofs.Common.{◌≡◌, ℕ, zero, suc, ◌+◌, ◌-◌, ◌*◌, ◌/◌, ◌%◌, ◌^◌, ◌<◌, ◌≤◌, Bool, true, false, cond, List, [], ◌∷◌, Option, Some, None, All, length, take, drop, get_or, refl, sym, subst, arith}
+use Rattle.std.specs.List.{AllByRecursion, slice_get}
+use Rattle.std.specs.Option.{IfSome}
+use Rattle.std.specs.Int.{w16, w32, from_le_bytes, to_be_bytes}
+use Rattle.std.specs.Prelude.{slice_index}
+use Rattle.std.proofs.Math.Nat.{div-le_self, div-mul-le_self, max-le}
+use Rattle.std.proofs.lemmas.Nat.{le-div, mod_below, mul-le}
+use Rattle.std.proofs.lemmas.List.{length-take-le, length-drop}
+use Rattle.std.proofs.lemmas.List.Elements.{All-nil, All-cons, All-head, All-tail, All-same, All-from_recursion, All-get_or, All-append, All-push, All-set, All-take, All-drop}
+use Rattle.std.proofs.lemmas.Option.{get_or_from_slice_get, slice_get_within}
+use Rattle.sha2.specs.Sha256.{sha256, digest_bytes}
+use Rattle.sha2.proofs.Facts256.{length-sha256}
+use Rattle.mig_base.specs.declared.span.Span.{Span}
+use Rattle.nvm_values.specs.declared.op.Op.{Op}
+use Rattle.nvm_values.specs.declared.op.Op.TheVariants.{Flush, Write, Read, Compare, WriteZeroes, Verify}
+use Rattle.nvm_values.specs.declared.sqe.Sqe.{Sqe}
+use Rattle.nvm_values.specs.Op.{op_of}
+use Rattle.nvm_values.specs.Sqe.{sqe_of}
+use Rattle.nvm_values.specs.Status.{StatusPair, invalid_field}
+use Rattle.nvm_model.specs.declared.command.Command.{Command}
+use Rattle.nvm_model.specs.declared.command.Completion.{Completion}
+use Rattle.nvm_model.specs.declared.command.Outcome.{Outcome}
+use Rattle.nvm_model.specs.declared.command.Outcome.TheVariants.{Done, Faulted, Differs}
+use Rattle.nvm_model.specs.declared.command.Work.{Work}
+use Rattle.nvm_model.specs.declared.line.Line.{Line}
+use Rattle.nvm_model.specs.declared.line.Line.TheVariants as line
+use Rattle.nvm_model.specs.declared.script.Act.{Act}
+use Rattle.nvm_model.specs.declared.script.Act.TheVariants.{Fill, Poke, List as PrpList, Submit, Raw, Wait, Idle}
+use Rattle.nvm_model.specs.declared.script.Script.{Script}
+use Rattle.nvm_model.specs.Check.{first_holding, fetched_command, checked_command, opened, has_bad_pages}
+use Rattle.nvm_model.specs.Event.{submitted_by, DoesAct, Reaps, Fetches, Posts, DoesPiece, LaneStep, lane_number}
+use Rattle.nvm_model.specs.Piece.{piece_count, piece_at, pieces_left, OutcomeFits, MovesTo, ComparesTo, bytes_of, digest_after, outcome_status, is_success, after_piece}
+use Rattle.nvm_model.specs.ScriptText.{IsSet, IsAct, IsHead}
+use Rattle.nvm_model.specs.Text.{IsStatus, IsOutcome, IsDigest, DigestMayStand, IsLine}
+use Rattle.nvm_model.specs.World.{Lane, set_of, acts_of}
+use Rattle.session.specs.Check.{early_tests, early_decision, HasPassed}
+use Rattle.session.specs.Goes.{LaneSteps}
+use Rattle.session.specs.Range.{IsWorkOf, IsCommandOf, IsEntry, IsCompletion, IsInRange}
+use Rattle.session.proofs.CheckLemmas.{stopped, passed_on, has_passed}
+
+-- a new lane is in range
+pub new_in_range : (s : Script) (lane : Lane) → lane.submitted ≡ [] → lane.running ≡ [] → lane.posted ≡ [] → IsInRange s lane
+new_in_range s lane none_submitted none_running none_posted = record {
+  entries = All-same IsEntry lane.submitted [] none_submitted (All-nil IsEntry);
+  running = All-same (IsCommandOf s.head.blocks) lane.running [] none_running (All-nil (IsCommandOf s.head.blocks));
+  posted = All-same IsCompletion lane.posted [] none_posted (All-nil IsCompletion);
+}
+
+-- a script and the number of a lane of it
+record IsNumbered (s : Script) (k : ℕ) : Type 0 where
+  head : IsHead s.head
+  lane : (1 ≤ k) × (k ≤ 8)
+  set_fits : IsSet (set_of s.head k)
+  acts_fit : All (IsAct (set_of s.head k).pages) (acts_of k s.acts)
+  few : length (acts_of k s.acts) ≤ 65536
+
+-- what holds of each element holds of one that was got
+all_at : {X : Type 0} (P : X → Type 0) (xs : List X) (i : ℕ) (x : X) → slice_get xs i ≡ Some x → All P xs → P x
+all_at P xs i x at all = subst P (get_or_from_slice_get xs i x x at) (All-get_or P xs i x (slice_get_within xs i x at) all)
+
+abbrev IsByte : ℕ → Type 0
+IsByte byte = byte < 2 ^ 8
+
+-- The guest's acts.
+
+two_bytes : (bytes : List ℕ) → length bytes ≡ 2 → All IsByte bytes → from_le_bytes w16 bytes < 2 ^ 16
+two_bytes bytes two all =
+    let low : get_or bytes 0 0 < 2 ^ 8 = All-get_or IsByte bytes 0 0 (omega arith) all in
+    let high : get_or bytes 1 0 < 2 ^ 8 = All-get_or IsByte bytes 1 0 (omega arith) all in
+    omega arith
+
+raw_cid : (entry : List ℕ) → length entry ≡ 64 → All IsByte entry → IsEntry (sqe_of entry)
+raw_cid entry long all =
+    let enough : 2 ≤ length (drop 2 entry) = rw length-drop (omega arith) in
+    two_bytes (take 2 (drop 2 entry)) (length-take-le 2 (drop 2 entry) enough) (All-take IsByte 2 (drop 2 entry) (All-drop IsByte 2 entry all))
+
+one_entry : (e : Sqe) → IsEntry e → All IsEntry (e ∷ [])
+one_entry e is = All-cons IsEntry e [] is (All-nil IsEntry)
+
+act_entries : (k pages : ℕ) (act : Act) → IsAct pages act → All IsEntry (submitted_by k act)
+act_entries k pages (Submit cid op slba count p1 p2) is = one_entry _ is.0
+act_entries k pages (Raw entry) is = one_entry _ (raw_cid entry is.0 is.1)
+act_entries k pages (Fill page byte) is = All-nil IsEntry
+act_entries k pages (Poke page at bytes used) is = All-nil IsEntry
+act_entries k pages (PrpList page named used) is = All-nil IsEntry
+act_entries k pages Wait is = All-nil IsEntry
+act_entries k pages Idle is = All-nil IsEntry
+
+act_in_range : (s : Script) (k n : ℕ) (lane new : Lane) → IsNumbered s k → IsInRange s lane → DoesAct s k n lane new → IsLine (line.Act k n) × IsInRange s new
+act_in_range s k n lane new numbered range does =
+    let acts = acts_of k s.acts in
+    let fits : IsAct (set_of s.head k).pages does.act = all_at (IsAct (set_of s.head k).pages) acts lane.acts does.act does.due numbered.acts_fit in
+    let there : lane.acts < length acts = slice_get_within acts lane.acts does.act does.due in (
+      (numbered.lane.0, numbered.lane.1, omega (arith, there, numbered.few, does.number)),
+      subst (IsInRange s) (sym does.after) (record {
+        entries = All-append IsEntry lane.submitted (submitted_by k does.act) range.entries (act_entries k (set_of s.head k).pages does.act fits);
+        running = range.running;
+        posted = range.posted;
+      }),
+    )
+
+reap_in_range : (s : Script) (k : ℕ) (completion : Completion) (lane new : Lane) → IsNumbered s k → IsInRange s lane → Reaps completion lane new →
+    IsLine (line.Reap k completion.cid completion.status completion.head completion.phase) × IsInRange s new
+reap_in_range s k completion lane new numbered range reaps =
+    let one : IsCompletion completion = all_at IsCompletion lane.posted lane.reaped completion reaps.oldest range.posted in (
+      ((numbered.lane.0, numbered.lane.1, one.0), one.1, one.2),
+      subst (IsInRange s) (sym reaps.after) (record { entries = range.entries; running = range.running; posted = range.posted }),
+    )
+
+-- The controller's fetches.
+
+status_if : (b : Bool) (x : StatusPair) (r : Option StatusPair) → IsStatus x → IfSome r IsStatus → IfSome (cond b (Some x) r) IsStatus
+status_if true x r is others = is
+status_if false x r is others = others
+
+-- what each test's status is, the first that holds has
+first_status : (tests : List (Bool × StatusPair)) → AllByRecursion (λ (t : Bool × StatusPair). IsStatus t.1) tests → IfSome (first_holding tests) IsStatus
+first_status [] all = tt
+first_status (t ∷ tests) all = status_if t.0 t.1 (first_holding tests) all.0 (first_status tests all.1)
+
+early_status : (blocks : ℕ) (running : List Command) (e : Sqe) → IfSome (early_decision blocks running e) IsStatus
+unfolding early_decision
+early_status blocks running e = first_status (early_tests blocks running e)
+    ((omega arith, omega arith), ((omega arith, omega arith), ((omega arith, omega arith), ((omega arith, omega arith), ((omega arith, omega arith), ((omega arith, omega arith), ((omega arith, omega arith), tt)))))))
+
+-- the work of an entry that passed
+opened_work : (blocks lane : ℕ) (memory : List (List ℕ)) (e : Sqe) (op : Option Op) → HasPassed blocks e → IfSome (opened lane memory e op) (IsWorkOf blocks)
+opened_work blocks lane memory e None passed = tt
+opened_work blocks lane memory e (Some op) passed = (omega arith, passed.short, passed.within)
+
+late_in_range : (blocks lane : ℕ) (memory : List (List ℕ)) (e : Sqe) (bad : Bool) → IsEntry e → HasPassed blocks e →
+    IsCommandOf blocks (fetched_command (cond bad (Some invalid_field) None) lane memory e)
+late_in_range blocks lane memory e true is passed = record { cid = is; status = (omega arith, omega arith); work = tt }
+late_in_range blocks lane memory e false is passed = record { cid = is; status = (omega arith, omega arith); work = opened_work blocks lane memory e (op_of e.opcode) passed }
+
+decided_in_range : (blocks lane : ℕ) (memory : List (List ℕ)) (running : List Command) (e : Sqe) (early : Option StatusPair) → early ≡ early_decision blocks running e → IfSome early IsStatus →
+    IsEntry e → IsCommandOf blocks (checked_command blocks lane memory running e)
+decided_in_range blocks lane memory running e (Some status) same fits is =
+    subst (IsCommandOf blocks) (stopped blocks lane memory running e status same) (record { cid = is; status = fits; work = tt })
+decided_in_range blocks lane memory running e None same fits is =
+    subst (IsCommandOf blocks) (passed_on blocks lane memory running e same) (late_in_range blocks lane memory e (has_bad_pages lane memory e) is (has_passed blocks running e same))
+
+-- the command that a fetch makes
+checked_in_range : (blocks lane : ℕ) (memory : List (List ℕ)) (running : List Command) (e : Sqe) → IsEntry e → IsCommandOf blocks (checked_command blocks lane memory running e)
+checked_in_range blocks lane memory running e is = decided_in_range blocks lane memory running e (early_decision blocks running e) refl (early_status blocks running e) is
+
+left_few : (shelf blocks cid : ℕ) (status : StatusPair) (work : Option Work) → blocks ≤ 131072 → IfSome work (IsWorkOf blocks) → pieces_left shelf (record { cid = cid; status = status; work = work }) < 2 ^ 32
+left_few shelf blocks cid status None small is = omega arith
+left_few shelf blocks cid status (Some work) small is =
+    let last : (work.span.first + work.span.count - 1) / shelf ≤ work.span.first + work.span.count - 1 = div-le_self (work.span.first + work.span.count - 1) shelf in
+    omega arith
+
+fetch_in_range : (s : Script) (k cid : ℕ) (status : StatusPair) (pieces : ℕ) (lane new : Lane) → IsNumbered s k → IsInRange s lane → Fetches s k cid status pieces lane new →
+    IsLine (line.Fetch k cid status pieces) × IsInRange s new
+fetch_in_range s k cid status pieces lane new numbered range fetches =
+    let c = fetches.command in
+    let entry : IsEntry fetches.entry = all_at IsEntry lane.submitted lane.fetched fetches.entry fetches.oldest range.entries in
+    let one : IsCommandOf s.head.blocks c = subst (IsCommandOf s.head.blocks) (sym fetches.checked) (checked_in_range s.head.blocks k lane.pages lane.running fetches.entry entry) in (
+      (
+        (numbered.lane.0, numbered.lane.1, subst (λ n. n < 2 ^ 16) (sym fetches.cid_is) one.cid),
+        subst IsStatus (sym fetches.status_is) one.status,
+        subst (λ n. n < 2 ^ 32) (sym fetches.pieces_is) (left_few s.head.shelf s.head.blocks c.cid c.status c.work numbered.head.blocks.1 one.work),
+      ),
+      subst (IsInRange s) (sym fetches.after) (record {
+        entries = range.entries;
+        running = All-push (IsCommandOf s.head.blocks) lane.running c range.running one;
+        posted = range.posted;
+      }),
+    )
+
+-- The pieces.
+
+-- a piece lies within its command's range
+piece_within : (shelf : ℕ) (span : Span) (i : ℕ) → 1 ≤ shelf → 1 ≤ span.count → i < piece_count shelf span →
+    ((piece_at shelf span i).first ≤ span.first + span.count) × ((piece_at shelf span i).count ≤ span.first + span.count)
+piece_within shelf span i some full left =
+    let last = span.first + span.count - 1 in
+    let begins : span.first / shelf * shelf ≤ span.first = div-mul-le_self span.first shelf in
+    let order : span.first / shelf ≤ last / shelf = le-div (span.first / shelf) last shelf some (omega arith) in
+    let below : (span.first / shelf + i) * shelf ≤ last / shelf * shelf = mul-le (span.first / shelf + i) shelf (last / shelf) shelf (omega arith) (omega arith) in
+    let ends : last / shelf * shelf ≤ last = div-mul-le_self last shelf in
+    (max-le (omega arith) (omega arith), omega arith)
+
+moved_fits : (count : ℕ) (outcome : Outcome) → MovesTo count outcome → count < 2 ^ 32 → IsOutcome outcome
+moved_fits count Done fits few = tt
+moved_fits count (Faulted at) fits few = omega arith
+moved_fits count (Differs at) fits few = absurd fits
+
+compared_fits : (same : ℕ → Type 0) (count : ℕ) (outcome : Outcome) → ComparesTo same count outcome → count < 2 ^ 32 → IsOutcome outcome
+compared_fits same count Done fits few = tt
+compared_fits same count (Faulted at) fits few = omega (arith, fits.0)
+compared_fits same count (Differs at) fits few = omega (arith, fits.0)
+
+-- an outcome stands at a block of its piece
+outcome_fits : (op : Op) (same : ℕ → Type 0) (count : ℕ) (outcome : Outcome) → OutcomeFits op same count outcome → count < 2 ^ 32 → IsOutcome outcome
+outcome_fits Compare same count outcome fits few = compared_fits same count outcome fits few
+outcome_fits Write same count outcome fits few = moved_fits count outcome fits few
+outcome_fits Read same count outcome fits few = moved_fits count outcome fits few
+outcome_fits WriteZeroes same count outcome fits few = moved_fits count outcome fits few
+outcome_fits Verify same count outcome fits few = moved_fits count outcome fits few
+outcome_fits Flush same count outcome fits few = absurd fits
+
+-- no digest stands beside `differs`
+pub digest_may : (op : Op) (same : ℕ → Type 0) (count first n : ℕ) (blocks : List (List ℕ)) (outcome : Outcome) (digest : Option (List ℕ)) →
+    OutcomeFits op same count outcome → digest ≡ digest_after op first n blocks → DigestMayStand outcome digest
+digest_may op same count first n blocks Done digest fits is = tt
+digest_may op same count first n blocks (Faulted at) digest fits is = tt
+digest_may op same count first n blocks (Differs at) None fits is = tt
+digest_may Compare same count first n blocks (Differs at) (Some digest) fits is = cc
+digest_may Write same count first n blocks (Differs at) (Some digest) fits is = absurd fits
+digest_may Read same count first n blocks (Differs at) (Some digest) fits is = absurd fits
+digest_may WriteZeroes same count first n blocks (Differs at) (Some digest) fits is = absurd fits
+digest_may Verify same count first n blocks (Differs at) (Some digest) fits is = absurd fits
+digest_may Flush same count first n blocks (Differs at) (Some digest) fits is = absurd fits
+
+word_bytes : (n : ℕ) → All IsByte (to_be_bytes w32 n)
+word_bytes n = All-from_recursion IsByte (to_be_bytes w32 n)
+    (mod_below (n / 256 ^ 3) 256 (omega arith), (mod_below (n / 256 ^ 2) 256 (omega arith), (mod_below (n / 256) 256 (omega arith), (mod_below n 256 (omega arith), tt))))
+
+digest_of_bytes : (h : List ℕ) (n : ℕ) → All IsByte (digest_bytes h n)
+unfolding digest_bytes
+digest_of_bytes h zero = All-nil IsByte
+digest_of_bytes h (suc n) = All-append IsByte (digest_bytes h n) (to_be_bytes w32 (slice_index h n)) (digest_of_bytes h n) (word_bytes (slice_index h n))
+
+sha256_of_bytes : (m : List ℕ) → All IsByte (sha256 m)
+unfolding sha256
+sha256_of_bytes m = digest_of_bytes _ 8
+
+is_digest : (op : Op) (first n : ℕ) (blocks : List (List ℕ)) → IsDigest (digest_after op first n blocks)
+is_digest Read first n blocks = (length-sha256 (bytes_of first n blocks), sha256_of_bytes (bytes_of first n blocks))
+is_digest Write first n blocks = tt
+is_digest WriteZeroes first n blocks = tt
+is_digest Compare first n blocks = tt
+is_digest Verify first n blocks = tt
+is_digest Flush first n blocks = tt
+
+is_outcome_status : (op : Op) (outcome : Outcome) → IsStatus (outcome_status op outcome)
+is_outcome_status op Done = (omega arith, omega arith)
+is_outcome_status op (Differs at) = (omega arith, omega arith)
+is_outcome_status Write (Faulted at) = (omega arith, omega arith)
+is_outcome_status WriteZeroes (Faulted at) = (omega arith, omega arith)
+is_outcome_status Read (Faulted at) = (omega arith, omega arith)
+is_outcome_status Compare (Faulted at) = (omega arith, omega arith)
+is_outcome_status Verify (Faulted at) = (omega arith, omega arith)
+is_outcome_status Flush (Faulted at) = (omega arith, omega arith)
+
+one_of_both : (b : Bool) (x y : StatusPair) → IsStatus x → IsStatus y → IsStatus (cond b x y)
+one_of_both true x y is other = is
+one_of_both false x y is other = other
+
+-- a command after its next piece
+after_in_range : (blocks : ℕ) (c : Command) (work : Work) (outcome : Outcome) → c.work ≡ Some work → IsCommandOf blocks c → IsCommandOf blocks (after_piece c work outcome)
+after_in_range blocks c work outcome has is = record {
+  cid = is.cid;
+  status = one_of_both (is_success c.status) (outcome_status work.op outcome) c.status (is_outcome_status work.op outcome) is.status;
+  work = subst (λ (o : Option Work). IfSome o (IsWorkOf blocks)) has is.work;
+}
+
+piece_in_range : (s : Script) (k cid first count : ℕ) (outcome : Outcome) (digest : Option (List ℕ)) (blocks : List (List ℕ)) (lane : Lane) (new_blocks : List (List ℕ)) (new : Lane) →
+    IsNumbered s k → IsInRange s lane → DoesPiece s cid first count outcome digest blocks lane new_blocks new → IsLine (line.Piece k cid first count outcome digest) × IsInRange s new
+piece_in_range s k cid first count outcome digest blocks lane new_blocks new numbered range does =
+    let c = does.command in
+    let work = does.work in
+    let did = does.does in
+    let one : IsCommandOf s.head.blocks c = all_at (IsCommandOf s.head.blocks) lane.running does.place c does.at_place range.running in
+    let own : IsWorkOf s.head.blocks work = subst (λ (o : Option Work). IfSome o (IsWorkOf s.head.blocks)) does.work_is one.work in
+    let within = piece_within s.head.shelf work.span work.done numbered.head.shelf.0 own.0 does.left in
+    let first_few : first < 2 ^ 32 = omega (arith, did.first_is, within.0, own.2, numbered.head.blocks.1) in
+    let few : count < 2 ^ 32 = omega (arith, did.count_is, within.1, own.2, numbered.head.blocks.1) in (
+      (
+        (numbered.lane.0, numbered.lane.1, subst (λ n. n < 2 ^ 16) (sym does.cid_is) one.cid),
+        first_few,
+        few,
+        outcome_fits work.op _ count outcome did.fits few,
+        subst IsDigest (sym did.digest_is) (is_digest work.op first _ blocks),
+        digest_may work.op _ count first _ blocks outcome digest did.fits did.digest_is,
+      ),
+      subst (IsInRange s) (sym does.after) (record {
+        entries = range.entries;
+        running = All-set (IsCommandOf s.head.blocks) lane.running does.place (after_piece c work outcome) (after_in_range s.head.blocks c work outcome does.work_is one) range.running;
+        posted = range.posted;
+      }),
+    )
+
+-- The posts.
+
+post_in_range : (s : Script) (k cid : ℕ) (status : StatusPair) (lane new : Lane) → IsNumbered s k → IsInRange s lane → Posts s k cid status lane new → IsLine (line.Post k cid status) × IsInRange s new
+post_in_range s k cid status lane new numbered range posts =
+    let c = posts.command in
+    let sq = (set_of s.head k).sq in
+    let all = All-same (IsCommandOf s.head.blocks) (c ∷ posts.others) lane.running (sym posts.oldest) range.running in
+    let one : IsCommandOf s.head.blocks c = All-head (IsCommandOf s.head.blocks) c posts.others all in
+    let its_cid : cid < 2 ^ 16 = subst (λ n. n < 2 ^ 16) (sym posts.cid_is) one.cid in
+    let its_status : IsStatus status = subst IsStatus (sym posts.status_is) one.status in
+    let head : lane.fetched % sq < sq = mod_below lane.fetched sq (omega (arith, numbered.set_fits.0)) in (
+      ((numbered.lane.0, numbered.lane.1, its_cid), its_status),
+      subst (IsInRange s) (sym posts.after) (record {
+        entries = range.entries;
+        running = All-tail (IsCommandOf s.head.blocks) c posts.others all;
+        posted = All-push IsCompletion lane.posted _ range.posted (its_cid, its_status, omega (arith, head, numbered.set_fits.1));
+      }),
+    )
+
+-- an event of a lane in range is a line, and leaves it in range
+step_in_range : (s : Script) (e : Line) (blocks : List (List ℕ)) (lane : Lane) (new_blocks : List (List ℕ)) (new : Lane) →
+    IsNumbered s (lane_number e) → IsInRange s lane → LaneStep s e blocks lane new_blocks new → IsLine e × IsInRange s new
+step_in_range s (line.Act k n) blocks lane new_blocks new numbered range h = act_in_range s k n lane new numbered range h.1
+step_in_range s (line.Reap k cid status head phase) blocks lane new_blocks new numbered range h = reap_in_range s k _ lane new numbered range h.1
+step_in_range s (line.Fetch k cid status pieces) blocks lane new_blocks new numbered range h = fetch_in_range s k cid status pieces lane new numbered range h.1
+step_in_range s (line.Piece k cid first count outcome digest) blocks lane new_blocks new numbered range h =
+    piece_in_range s k cid first count outcome digest blocks lane new_blocks new numbered range h
+step_in_range s (line.Post k cid status) blocks lane new_blocks new numbered range h = post_in_range s k cid status lane new numbered range h.1
+step_in_range s line.Title blocks lane new_blocks new numbered range h = absurd h
+step_in_range s line.Ready blocks lane new_blocks new numbered range h = absurd h
+step_in_range s line.Migrate blocks lane new_blocks new numbered range h = absurd h
+step_in_range s line.Restart blocks lane new_blocks new numbered range h = absurd h
+step_in_range s (line.Round owed pages) blocks lane new_blocks new numbered range h = absurd h
+step_in_range s line.Suspend blocks lane new_blocks new numbered range h = absurd h
+step_in_range s (line.Pause owed pages) blocks lane new_blocks new numbered range h = absurd h
+step_in_range s line.ResumeTo blocks lane new_blocks new numbered range h = absurd h
+step_in_range s line.GiveUp blocks lane new_blocks new numbered range h = absurd h
+step_in_range s line.End blocks lane new_blocks new numbered range h = absurd h
+
+steps_in_range : (s : Script) (k : ℕ) (es : List Line) (blocks : List (List ℕ)) (lane : Lane) (new_blocks : List (List ℕ)) (new : Lane) →
+    IsNumbered s k → IsInRange s lane → LaneSteps s k blocks lane es new_blocks new → AllByRecursion IsLine es × IsInRange s new
+steps_in_range s k [] blocks lane new_blocks new numbered range h = (tt, subst (IsInRange s) (sym h.1) range)
+steps_in_range s k (e ∷ es) blocks lane new_blocks new numbered range h =
+    let one = step_in_range s e blocks lane h.0 h.1 (subst (IsNumbered s) (sym h.2) numbered) range h.3 in
+    let others = steps_in_range s k es h.0 h.1 new_blocks new numbered one.1 h.4 in
+    ((one.0, others.0), others.1)
+
+-- the events of a lane in range are lines, and leave it in range
+pub lines_in_range : (s : Script) (k : ℕ) (es : List Line) (blocks : List (List ℕ)) (lane : Lane) (new_blocks : List (List ℕ)) (new : Lane) →
+    IsHead s.head → 1 ≤ k → k ≤ 8 → IsSet (set_of s.head k) → All (IsAct (set_of s.head k).pages) (acts_of k s.acts) → length (acts_of k s.acts) ≤ 65536 →
+    IsInRange s lane → LaneSteps s k blocks lane es new_blocks new → AllByRecursion IsLine es × IsInRange s new
+lines_in_range s k es blocks lane new_blocks new head low high set_fits acts_fit few range steps =
+    steps_in_range s k es blocks lane new_blocks new (record { head = head; lane = (low, high); set_fits = set_fits; acts_fit = acts_fit; few = few }) range steps

@@ -1,0 +1,23 @@
+use Rattle.std.proofs.Common.{◌≡◌, ◌+◌, ℕ, List, [], length, take, ap, ◌∙◌, arith, rules}
+use Rattle.guest_ram.specs.Ram.{all_pages}
+use Rattle.session.proofs.CopyLemmas.{one_copied, as_many_pages, all_pages_copied}
+use Rattle.session.proofs.cutover.copy_pages.Goals as goal
+
+pub copy_page-requires-clause-to : goal.copy_page-requires-clause-to
+copy_page-requires-clause-to c =
+    let many = as_many_pages c.loop-page.to c.args.from.now c.loop-page.invariant.shape in
+    omega (arith, many)
+
+pub loop-page-preserved : goal.loop-page-preserved
+loop-page-preserved c =
+    let many = as_many_pages c.loop-page.to c.args.from.now c.loop-page.invariant.shape in
+    record {
+      shape = search rules;
+      copied = ap (λ (pages : List (List ℕ)). take (c.loop-page.page + 1) pages) c.copy_page.ensures.pages
+          ∙ one_copied c.loop-page.page (all_pages c.args.from.now) (all_pages c.loop-page.to) [] (omega arith) (omega (arith, many)) c.loop-page.invariant.copied;
+    }
+
+pub returns : goal.returns
+returns c =
+    let all : c.loop-page.page ≡ length (all_pages c.args.from.now) = omega arith in
+    all_pages_copied c.loop-page.page c.args.from.now c.loop-page.to c.loop-page.invariant.shape all c.loop-page.invariant.copied

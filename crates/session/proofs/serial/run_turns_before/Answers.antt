@@ -1,0 +1,18 @@
+use Rattle.std.proofs.Common.{arith, rules}
+use Rattle.session.proofs.RunLemmas.{turned_more}
+use Rattle.session.proofs.serial.run_turns_before.Goals as goal
+
+pub loop-done-preserved : goal.loop-done-preserved
+loop-done-preserved g c = record {
+  turned = turned_more c.loop-done.invariant.turned c.in-Ok.ensures.turned;
+  sound = c.run_turn.ensures.sound;
+  none = c.run_turn.ensures.none;
+  memory = c.run_turn.ensures.memory;
+  same_size = search rules;
+  sized = c.run_turn.ensures.size.1;
+  capacity = search rules;
+  later = omega (arith, c.run_turn.ensures.cause.later);
+}
+
+pub returns-in-Err-clause-stopped : goal.returns-in-Err-clause-stopped
+returns-in-Err-clause-stopped g c = turned_more c.loop-done.invariant.turned c.in-Err.ensures.stopped

@@ -1,0 +1,40 @@
+use Rattle.std.specs.Prelude.{◌≡◌, ◌⊎◌, ℕ, ◌+◌, List, [], ◌∷◌, Option, Some, None, slice_index_or, slice_set, take}
+use Rattle.mig_base.specs.Count.{RisesBy}
+use Rattle.guest_ram.specs.Ram.{shape}
+use Rattle.guest_ram.specs.Window.{WindowState, data_pages, no_window}
+use Rattle.session.specs.declared.ending.Ending.{Ending}
+use Rattle.session.specs.declared.ending.Ending.TheVariants.{Done, GaveUp}
+use Rattle.session.specs.declared.lane_script.LaneScript.{LaneScript}
+
+-- The two sides of a move: each has the guest's memory and a medium.
+
+-- a host's memory is the one window of this lane
+abbrev pub HasMemory : LaneScript → List WindowState → Type 0
+HasMemory ls ram = shape ram ≡ (ls.lane, ls.set.pages + 2) ∷ []
+
+-- the guest's data pages
+abbrev pub memory_of : List WindowState → List (List ℕ)
+memory_of ram = data_pages (slice_index_or ram 0 no_window)
+
+-- the source's first n blocks were copied, where both sides tell their blocks, which never changes
+abbrev pub AreCopied : ℕ → Option (List (List ℕ)) → Option (List (List ℕ)) → Option (List (List ℕ)) → Type 0
+AreCopied n (Some from) (Some old_to) (Some to) = take n to ≡ take n from
+AreCopied n (Some from) (Some old_to) None = ⊥
+AreCopied n None old_to to = Unit {0}
+AreCopied n (Some from) None to = Unit {0}
+
+-- one block was copied, where both sides tell theirs
+abbrev pub CopiesBlock : ℕ → Option (List (List ℕ)) → Option (List (List ℕ)) → Option (List (List ℕ)) → Type 0
+CopiesBlock b (Some from) (Some old_to) to = to ≡ Some (slice_set old_to b (slice_index_or from b []))
+CopiesBlock b None old_to to = Unit {0}
+CopiesBlock b (Some from) None to = Unit {0}
+
+-- what holds of a guest that was moved
+abbrev pub IfMoved : Ending → Type 0 → Type 0
+IfMoved Done claim = claim
+IfMoved GaveUp claim = Unit {0}
+
+-- a migration is given up only where a call of a medium failed
+abbrev pub OneRose : Ending → ℕ → ℕ → ℕ → ℕ → Type 0
+OneRose Done from to new_from new_to = Unit {0}
+OneRose GaveUp from to new_from new_to = RisesBy 1 from new_from ⊎ RisesBy 1 to new_to

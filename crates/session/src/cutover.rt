@@ -1,0 +1,178 @@
+// The cutover of a suspended move: while nothing runs, every block and every window page goes to the destination.
+ghost use Rattle.std.specs.Prelude.{◌≡◌, ◌+◌, ◌<◌, ◌≤◌, ◌⊎◌, ◌∷◌, [], true, false, IfOk, OnErr, OnOk, length};
+ghost use Rattle.mig_base.specs.Count.{HasCause, RisesBy};
+ghost use Rattle.mig_base.specs.Stream.{with_more};
+ghost use Rattle.nvm_model.specs.Text.{text_of};
+ghost use Rattle.guest_ram.specs.Ram.{shape};
+ghost use Rattle.session.specs.Run.{HasMoved, HasStoppedMoving, ending_lines};
+ghost use Rattle.session.specs.Side.{AreCopied, CopiesBlock, HasMemory, IfMoved, OneRose};
+ghost use Rattle.session.specs.State.{IsLaneOf};
+ghost use Rattle.session.specs.Work.{IsSized};
+ghost use Rattle.session.specs.Written.{IsCut};
+
+use crate::lines::write_lines;
+use crate::{Ending, LaneScript};
+use guest_ram::Ram;
+use mig_base::{Failed, Sink};
+use mig_medium::Medium;
+use nvm_model::{Line, Script};
+use transcript::LineBuf;
+
+/// Suspends the guest and moves it: everything is copied, or the migration is given up where a medium failed.
+///
+/// # Errors
+///
+/// `Failed` only where the sink's count of faults rose.
+pub(crate) fn migrate<K: Sink, M: Medium>(
+    script: &Script,
+    ls: &LaneScript,
+    from_ram: &Ram,
+    from: &mut M,
+    to_ram: &mut Ram,
+    to: &mut M,
+    buf: &mut LineBuf,
+    output: &mut K,
+) -> Result<Ending, Failed>
+    requires lane { IsLaneOf script.now ls.now }
+    requires from_memory { HasMemory ls.now from_ram.now }
+    requires to_memory { HasMemory ls.now to_ram.old }
+    requires from_size { (M.size from.old ≡ script.now.head.blocks) × IsSized (M.blocks from.old) (M.size from.old) }
+    requires to_size { (M.size to.old ≡ script.now.head.blocks) × IsSized (M.blocks to.old) (M.size to.old) }
+
+    ensures moved { IfOk result (λ ending. HasMoved true script.now ls.now.lane ending (M.faults from.old) (M.faults to.old) (K.bytes output.old)
+        (M.faults from.new) (M.faults to.new) (K.bytes output.new)) }
+    ensures stopped { OnErr result (HasStoppedMoving script.now ls.now.lane (M.faults from.old) (M.faults to.old) (K.bytes output.old)
+        (M.faults from.new) (M.faults to.new) (K.bytes output.new)) }
+    ensures blocks { IfOk result (λ ending. IfMoved ending (AreCopied script.now.head.blocks (M.blocks from.old) (M.blocks to.old) (M.blocks to.new))) }
+    ensures memory { IfOk result (λ ending. IfMoved ending (to_ram.new ≡ from_ram.now)) }
+    ensures same_blocks { M.blocks from.new ≡ M.blocks from.old }
+    ensures from_size { M.size from.new ≡ M.size from.old }
+    ensures to_size { (M.size to.new ≡ M.size to.old) × IsSized (M.blocks to.new) (M.size to.new) }
+    ensures to_memory { HasMemory ls.now to_ram.new }
+    ensures later { (M.faults from.old ≤ M.faults from.new) × (M.faults to.old ≤ M.faults to.new) }
+    ensures cause { HasCause (K.faults output.old) (K.faults output.new) result }
+{
+    match write_lines(&[Line::Migrate, Line::Suspend], buf, output) {
+        Ok(()) => {}
+        Err(Failed) => return Err(Failed),
+    }
+    let ending = copy_all(from_ram, from, to_ram, to);
+    match write_ending(ending, from.len(), from_ram.page_count(), buf, output) {
+        Ok(()) => Ok(ending),
+        Err(Failed) => Err(Failed),
+    }
+}
+
+/// Writes the lines after `suspend`.
+fn write_ending<K: Sink>(
+    ending: Ending,
+    blocks: u32,
+    pages: u32,
+    buf: &mut LineBuf,
+    output: &mut K,
+) -> Result<(), Failed>
+    ensures written { OnOk result (K.bytes output.new ≡ with_more (text_of (ending_lines ending blocks pages)) (K.bytes output.old)) }
+    ensures cut { OnErr result (IsCut (text_of (ending_lines ending blocks pages)) (K.bytes output.old) (K.bytes output.new)) }
+    ensures cause { HasCause (K.faults output.old) (K.faults output.new) result }
+{
+    match ending {
+        Ending::Done => write_lines(
+            &[Line::Pause { blocks, pages }, Line::ResumeTo],
+            buf,
+            output,
+        ),
+        Ending::GaveUp => write_lines(&[Line::GiveUp], buf, output),
+    }
+}
+
+/// Copies every block and every window page, each once, ascending, until a call of a medium fails.
+fn copy_all<M: Medium>(from_ram: &Ram, from: &mut M, to_ram: &mut Ram, to: &mut M) -> Ending
+    requires shapes { shape to_ram.old ≡ shape from_ram.now }
+    requires sizes { M.size to.old ≡ M.size from.old }
+    requires from_sized { IsSized (M.blocks from.old) (M.size from.old) }
+    requires to_sized { IsSized (M.blocks to.old) (M.size to.old) }
+    ensures blocks { IfMoved result (AreCopied (M.size from.old) (M.blocks from.old) (M.blocks to.old) (M.blocks to.new)) }
+    ensures memory { IfMoved result (to_ram.new ≡ from_ram.now) }
+    ensures shapes { shape to_ram.new ≡ shape to_ram.old }
+    ensures same_blocks { M.blocks from.new ≡ M.blocks from.old }
+    ensures from_size { M.size from.new ≡ M.size from.old }
+    ensures to_size { (M.size to.new ≡ M.size to.old) × IsSized (M.blocks to.new) (M.size to.new) }
+    ensures rose { OneRose result (M.faults from.old) (M.faults to.old) (M.faults from.new) (M.faults to.new) }
+    ensures later { (M.faults from.old ≤ M.faults from.new) × (M.faults to.old ≤ M.faults to.new) }
+{
+    match copy_blocks(from, to) {
+        Ok(()) => {
+            copy_pages(from_ram, to_ram);
+            Ending::Done
+        }
+        Err(Failed) => Ending::GaveUp,
+    }
+}
+
+/// Copies every block.
+///
+/// # Errors
+///
+/// `Failed` only where the count of faults of one of the media rose.
+fn copy_blocks<M: Medium>(from: &mut M, to: &mut M) -> Result<(), Failed>
+    requires sizes { M.size to.old ≡ M.size from.old }
+    requires from_sized { IsSized (M.blocks from.old) (M.size from.old) }
+    requires to_sized { IsSized (M.blocks to.old) (M.size to.old) }
+    ensures copied { OnOk result (AreCopied (M.size from.old) (M.blocks from.old) (M.blocks to.old) (M.blocks to.new)) }
+    ensures same_blocks { M.blocks from.new ≡ M.blocks from.old }
+    ensures from_size { M.size from.new ≡ M.size from.old }
+    ensures to_size { (M.size to.new ≡ M.size to.old) × IsSized (M.blocks to.new) (M.size to.new) }
+    ensures rose { OnErr result (RisesBy 1 (M.faults from.old) (M.faults from.new) ⊎ RisesBy 1 (M.faults to.old) (M.faults to.new)) }
+    ensures later { (M.faults from.old ≤ M.faults from.new) × (M.faults to.old ≤ M.faults to.new) }
+{
+    let mut block = [0u8; 512];
+    for b in 0..from.len() {
+        match copy_block(b, &mut block, from, to) {
+            Ok(()) => {}
+            Err(Failed) => return Err(Failed),
+        }
+    }
+    Ok(())
+}
+
+/// Copies a block through a buffer.
+///
+/// # Errors
+///
+/// `Failed` only where the count of faults of one of the media rose. The destination's blocks are then as before.
+fn copy_block<M: Medium>(
+    b: u32,
+    block: &mut [u8; 512],
+    from: &mut M,
+    to: &mut M,
+) -> Result<(), Failed>
+    requires there { (b < M.size from.old) × (b < M.size to.old) }
+    requires from_sized { IsSized (M.blocks from.old) (M.size from.old) }
+    requires to_sized { IsSized (M.blocks to.old) (M.size to.old) }
+    ensures copied { OnOk result (CopiesBlock b (M.blocks from.old) (M.blocks to.old) (M.blocks to.new)) }
+    ensures kept { OnErr result (M.blocks to.new ≡ M.blocks to.old) }
+    ensures same_blocks { M.blocks from.new ≡ M.blocks from.old }
+    ensures from_size { M.size from.new ≡ M.size from.old }
+    ensures to_size { (M.size to.new ≡ M.size to.old) × IsSized (M.blocks to.new) (M.size to.new) }
+    ensures rose { OnErr result (RisesBy 1 (M.faults from.old) (M.faults from.new) ⊎ RisesBy 1 (M.faults to.old) (M.faults to.new)) }
+    ensures later { (M.faults from.old ≤ M.faults from.new) × (M.faults to.old ≤ M.faults to.new) }
+{
+    match from.get(b, block) {
+        Ok(()) => {}
+        Err(Failed) => return Err(Failed),
+    }
+    match to.put(b, block) {
+        Ok(()) => Ok(()),
+        Err(Failed) => Err(Failed),
+    }
+}
+
+/// Copies every window page.
+fn copy_pages(from: &Ram, to: &mut Ram)
+    requires { shape to.old ≡ shape from.now }
+    ensures { to.new ≡ from.now }
+{
+    for page in 0..from.page_count() {
+        from.copy_page(page, to);
+    }
+}
