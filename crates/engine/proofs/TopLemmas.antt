@@ -5,7 +5,9 @@ use Rattle.std.proofs.lemmas.List.Elements.{All-head, All-tail}
 use Rattle.std.proofs.lemmas.List.Sums.{sum_by-append, sum_by-cons}
 use Rattle.nvm_model.specs.declared.line.Line.{Line}
 use Rattle.nvm_model.specs.declared.line.Line.TheVariants as line
+use Rattle.nvm_model.specs.declared.script.Head.{Head}
 use Rattle.nvm_model.specs.declared.script.LaneSet.{LaneSet}
+use Rattle.nvm_model.specs.Ring.{lane_window}
 use Rattle.nvm_model.specs.declared.script.Script.{Script}
 use Rattle.nvm_model.specs.World.{Lane, World, new_lane, start_world, lane_of, set_of, acts_of, IsQuiet}
 use Rattle.nvm_model.specs.History.{has_given_up, Steps, Reaches, AreEvents, IsLaneComplete, Complete, IsMigration, faults_shown, shows_fault}
@@ -105,28 +107,28 @@ joined_one : (told : Option (List (List ℕ))) → joined (told ∷ []) ≡ told
 joined_one None = refl
 joined_one (Some blocks) = ap (λ (b : List (List ℕ)). Some b) (append-nil blocks)
 
-holds_alone : (told : Option (List (List ℕ))) (pages : List (List ℕ)) (blocks : List (List ℕ)) (lane : Lane) → told ≡ Some blocks → pages ≡ lane.pages → Holds (told ∷ []) (pages ∷ []) (alone blocks lane)
-holds_alone told pages blocks lane is memory = record { blocks = joined_one told ∙ is; memory_is = ap (λ (p : List (List ℕ)). p ∷ []) memory }
+holds_alone : (head : Head) (told : Option (List (List ℕ))) (pages : List (List ℕ)) (blocks : List (List ℕ)) (lane : Lane) → told ≡ Some blocks → pages ≡ lane_window head 1 lane → Holds head (told ∷ []) (pages ∷ []) (alone blocks lane)
+holds_alone head told pages blocks lane is memory = record { blocks = joined_one told ∙ is; memory_is = ap (λ (p : List (List ℕ)). p ∷ []) memory }
 
 -- the hosts hold what they are to hold
 hosts_hold : (s : Script) (blocks : List (List ℕ)) (ending : Ending) (run : WholeRun s 1 blocks (start_of s) ending) (wish : Option ℕ) (told : Option (List (List ℕ))) (pages : List (List ℕ)) (to_told : Option (List (List ℕ))) (to_pages : List (List ℕ)) →
-    IsTaken s → AreMoving s 1 wish ending run.moving → SidesHold wish ending run.mid_blocks run.mid run.new_blocks run.new told pages to_told to_pages →
+    IsTaken s → AreMoving s 1 wish ending run.moving → SidesHold (lane_window s.head 1) wish ending run.mid_blocks run.mid run.new_blocks run.new told pages to_told to_pages →
     HostsHold s blocks (lines_of s blocks ending run) (world_of s blocks ending run) (told ∷ []) (pages ∷ []) (to_told ∷ []) (to_pages ∷ [])
 hosts_hold s blocks Done run None told pages to_told to_pages taken are holds =
     let first = before_events s blocks Done run in
     let second = after_events s blocks Done run in
     subst (λ (o : Option (List Line)). HoldMoved o s blocks (world_of s blocks Done run) (told ∷ []) (pages ∷ []) (to_told ∷ []) (to_pages ∷ []))
-    (sym (not_resumed s run.before run.moving run.after first second (stayed_unresumed run.after run.moving second are))) (holds_alone told pages run.new_blocks run.new holds.0 holds.1)
+    (sym (not_resumed s run.before run.moving run.after first second (stayed_unresumed run.after run.moving second are))) (holds_alone s.head told pages run.new_blocks run.new holds.0 holds.1)
 hosts_hold s blocks GaveUp run None told pages to_told to_pages taken are holds = absurd are
 hosts_hold s blocks GaveUp run (Some turn) told pages to_told to_pages taken are holds =
     let first = before_events s blocks GaveUp run in
     let second = after_events s blocks GaveUp run in
     subst (λ (o : Option (List Line)). HoldMoved o s blocks (world_of s blocks GaveUp run) (told ∷ []) (pages ∷ []) (to_told ∷ []) (to_pages ∷ []))
-    (sym (not_resumed s run.before run.moving run.after first second (given_up_unresumed s run.after run.moving second are))) (holds_alone told pages run.new_blocks run.new holds.0 holds.1)
+    (sym (not_resumed s run.before run.moving run.after first second (given_up_unresumed s run.after run.moving second are))) (holds_alone s.head told pages run.new_blocks run.new holds.0 holds.1)
 hosts_hold s blocks Done run (Some turn) told pages to_told to_pages taken are holds =
     subst (λ (o : Option (List Line)). HoldMoved o s blocks (world_of s blocks Done run) (told ∷ []) (pages ∷ []) (to_told ∷ []) (to_pages ∷ []))
     (sym (resumed s run.before run.moving run.after (before_events s blocks Done run) are))
-    (alone run.mid_blocks run.mid, reaches s blocks run.before run.mid_blocks run.mid taken run.steps_before, holds_alone told pages run.mid_blocks run.mid holds.0 holds.1, holds_alone to_told to_pages run.new_blocks run.new holds.2 holds.3)
+    (alone run.mid_blocks run.mid, reaches s blocks run.before run.mid_blocks run.mid taken run.steps_before, holds_alone s.head told pages run.mid_blocks run.mid holds.0 holds.1, holds_alone s.head to_told to_pages run.new_blocks run.new holds.2 holds.3)
 
 -- faults are shown between the first two lines and the last alone
 framed_faults : (body : List Line) → faults_shown (framed body) ≡ faults_shown body

@@ -24,7 +24,7 @@ pub record Single (media : Media) : Type 0 where
   pub shelves_are : media.shelves ≡ told ∷ []
   pub faults_are : media.faults ≡ count ∷ []
 
--- the data pages of a host's one guest
+-- the window pages of a host's one guest
 pub record Alone (memory : List (List (List ℕ))) : Type 0 where
   pub pages : List (List ℕ)
   pub memory_is : memory ≡ pages ∷ []

@@ -2,7 +2,10 @@ use Rattle.std.specs.Prelude.{◌≡◌, ℕ, ◌+◌, ◌-◌, ◌^◌, ◌<◌
 use Rattle.std.specs.Option.{option_map}
 use Rattle.nvm_model.specs.declared.line.Line.{Line}
 use Rattle.nvm_model.specs.declared.script.Script.{Script}
-use Rattle.nvm_model.specs.World.{Lane, World}
+use Rattle.nvm_model.specs.declared.script.Head.{Head}
+use Rattle.nvm_model.specs.Ring.{lane_windows}
+use Rattle.nvm_model.specs.World.{World}
+use Rattle.guest_ram.specs.Window.{WindowState}
 use Rattle.nvm_model.specs.History.{events_of, events_before_resume, Reaches, IsWhole}
 use Rattle.nvm_model.specs.Text.{IsTranscript}
 use Rattle.engine.specs.Built.{IsTaken, Spells}
@@ -43,16 +46,20 @@ joined [] = Some []
 joined (None ∷ shelves) = None
 joined (Some blocks ∷ shelves) = option_map (λ others. blocks ++ others) (joined shelves)
 
--- a host's blocks and its guests' data pages are those of the world
-pub record Holds (shelves : List (Option (List (List ℕ)))) (memory : List (List (List ℕ))) (w : World) : Type 0 where
+-- a host's guest memory: each lane's window pages, rings included
+abbrev pub window_pages : List WindowState → List (List (List ℕ))
+window_pages ram = map (λ (window : WindowState). window.pages) ram
+
+-- a host's blocks and its whole guest memory, byte for byte, are those of the world
+pub record Holds (head : Head) (shelves : List (Option (List (List ℕ)))) (memory : List (List (List ℕ))) (w : World) : Type 0 where
   pub blocks : joined shelves ≡ Some w.blocks
-  pub memory_is : memory ≡ map (λ (l : Lane). l.pages) w.lanes
+  pub memory_is : memory ≡ lane_windows head 1 w.lanes
 
 -- Where the guest was moved, the source holds the world that the events before reach, and the destination holds the
 -- world at the end. Where it wasn't, the source holds it.
 abbrev pub HoldMoved : Option (List Line) → Script → List (List ℕ) → World → List (Option (List (List ℕ))) → List (List (List ℕ)) → List (Option (List (List ℕ))) → List (List (List ℕ)) → Type 0
-HoldMoved None s blocks w from from_memory to to_memory = Holds from from_memory w
-HoldMoved (Some before) s blocks w from from_memory to to_memory = (v : World) × Reaches s blocks before v × Holds from from_memory v × Holds to to_memory w
+HoldMoved None s blocks w from from_memory to to_memory = Holds s.head from from_memory w
+HoldMoved (Some before) s blocks w from from_memory to to_memory = (v : World) × Reaches s blocks before v × Holds s.head from from_memory v × Holds s.head to to_memory w
 
 -- the guest was moved where the lines have `resume to`
 abbrev pub HostsHold : Script → List (List ℕ) → List Line → World → List (Option (List (List ℕ))) → List (List (List ℕ)) → List (Option (List (List ℕ))) → List (List (List ℕ)) → Type 0

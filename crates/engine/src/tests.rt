@@ -53,6 +53,49 @@ reap 1 1 0 80 1 1
 end
 ";
 
+/// Queues of two entries each.
+const NARROW: &str = "nvmigrate script 1\nblocks 16\nshelf 16\nlanes 1\nlane 1 sq 2 cq 2 pages 1\n";
+
+/// Both queues wrap twice: the submission queue's head and the phase tag come back to where they began.
+const WRAPPING: &str = "\
+1 submit 1 write 0 1 0 -
+1 submit 2 write 0 1 0 -
+1 submit 3 write 0 1 0 -
+1 submit 4 write 0 1 0 -
+1 submit 5 write 0 1 0 -
+";
+
+const WRAPPING_TEXT: &str = "\
+nvmigrate transcript 1
+ready
+act 1 1
+fetch 1 1 0 00 1
+piece 1 1 0 1 ok
+post 1 1 0 00
+reap 1 1 0 00 1 1
+act 1 2
+fetch 1 2 0 00 1
+piece 1 2 0 1 ok
+post 1 2 0 00
+reap 1 2 0 00 0 1
+act 1 3
+fetch 1 3 0 00 1
+piece 1 3 0 1 ok
+post 1 3 0 00
+reap 1 3 0 00 1 0
+act 1 4
+fetch 1 4 0 00 1
+piece 1 4 0 1 ok
+post 1 4 0 00
+reap 1 4 0 00 0 0
+act 1 5
+fetch 1 5 0 00 1
+piece 1 5 0 1 ok
+post 1 5 0 00
+reap 1 5 0 00 1 1
+end
+";
+
 /// The head of a script without acts that moves its guest before the first turn.
 const MOVE_AT_ONCE: &str = "\
 nvmigrate script 1
@@ -249,6 +292,15 @@ fn reads_back<R: Threads + Sync + Abort>(rt: &R, alloc: Global) -> Result<(), Fa
     Ok(())
 }
 
+/// Both queues wrap, and the completions tell heads and phase tags of three passes.
+fn wraps<R: Threads + Sync + Abort>(rt: &R, alloc: Global) -> Result<(), Fail> {
+    let script = joined(alloc, [NARROW, PACE, WRAPPING, "end\n"])?;
+    let left = called(rt, alloc, script, SOUND)?;
+    assert!(rt; left.status == Status::Done);
+    assert!(rt; left.output.bytes() == WRAPPING_TEXT.as_bytes());
+    Ok(())
+}
+
 /// A command past the namespace's end is fetched with its status, and none of it is done.
 fn refuses_a_range<R: Threads + Sync + Abort>(rt: &R, alloc: Global) -> Result<(), Fail> {
     let script = joined(alloc, [SIZES, PACE, PAST_THE_END, "end\n"])?;
@@ -399,6 +451,7 @@ fn moves(rt: HostRuntime) -> Result<(), Fail> {
 #[test]
 fn runs(rt: HostRuntime) -> Result<(), Fail> {
     reads_back(&rt, rt.alloc())?;
+    wraps(&rt, rt.alloc())?;
     refuses_a_range(&rt, rt.alloc())?;
     refuses_a_head(&rt, rt.alloc())?;
     tells_faults(&rt, rt.alloc())?;

@@ -2,16 +2,14 @@
 ghost use Rattle.std.specs.Prelude.{◌≡◌, ◌+◌, ◌/◌, ◌++◌, ◌∷◌, [], None, Some, Ok, IfOk, IfErr, IfNone, IfSome, OnErr, OnOk, All, map, string_bytes, vec_capacity, ◌≤◌};
 ghost use Rattle.mig_base.specs.Count.{HasCause, RisesBy};
 ghost use Rattle.nvm_model.specs.History.{Complete, faults_shown, has_given_up};
-ghost use Rattle.nvm_model.specs.World.{new_lane};
 ghost use Rattle.guest_ram.specs.Ram.{windows_made};
-ghost use Rattle.session.specs.State.{IsLaneOf, IsSound, lane_state};
+ghost use Rattle.session.specs.State.{IsLaneOf, IsNewPair};
 ghost use Rattle.engine.specs.Ended.{HasBroken, HasEnded};
 ghost use Rattle.engine.specs.Room.{IsRoom};
-ghost use Rattle.guest_ram.specs.Window.{data_pages};
 ghost use Rattle.session.specs.Work.{IsSized};
 ghost use Rattle.engine.specs.Built.{IsTaken, Spells};
 ghost use Rattle.engine.specs.Claims.{IsBadScript, IsHostSize, IsLong, IsReadFault, IsRefusal, IsUsage, IsWriteFault, OnEnded, OnRefused, OnWriteFault, is_gave_up};
-ghost use Rattle.engine.specs.Headline.{Began, HostsHold, Ran, RoseBy, joined};
+ghost use Rattle.engine.specs.Headline.{Began, HostsHold, Ran, RoseBy, joined, window_pages};
 ghost use Rattle.engine.specs.Sizes.{HaveSizes, sizes_of, first_difference};
 ghost use Rattle.engine.specs.Words.{IsForm};
 
@@ -52,7 +50,7 @@ pub fn nvmigrate<R: Threads + Sync, S: Source, K: Sink, M: Medium + Send, G: Gat
     // those of the world at the end. Where it wasn't, the source holds these.
     ensures hosts { OnEnded result (Ran (S.left input.old) (joined (map M.blocks from.old.shelves.items)) (joined (map M.blocks to.old.shelves.items)) (K.bytes output.old) (K.bytes output.new)
         (λ script blocks lines world. HostsHold script blocks lines world
-        (map M.blocks from.new.shelves.items) (map data_pages from.new.ram) (map M.blocks to.new.shelves.items) (map data_pages to.new.ram))) }
+        (map M.blocks from.new.shelves.items) (window_pages from.new.ram) (map M.blocks to.new.shelves.items) (window_pages to.new.ram))) }
     // Each fault that a line shows, and a migration that was given up, has a failed call of a medium.
     ensures faults { OnEnded result (Ran (S.left input.old) (joined (map M.blocks from.old.shelves.items)) (joined (map M.blocks to.old.shelves.items)) (K.bytes output.old) (K.bytes output.new)
         (λ script blocks lines world. RoseBy (faults_shown lines)
@@ -153,13 +151,13 @@ fn run_hosts<K: Sink, M: Medium>(
         (record { shelves = map M.blocks to.old.shelves.items; faults = map M.faults to.old.shelves.items }) (K.bytes output.old)
         (record { shelves = map M.blocks from.new.shelves.items; faults = map M.faults from.new.shelves.items })
         (record { shelves = map M.blocks to.new.shelves.items; faults = map M.faults to.new.shelves.items })
-        (map data_pages from.new.ram) (map data_pages to.new.ram) (K.bytes output.new)) }
+        (window_pages from.new.ram) (window_pages to.new.ram) (K.bytes output.new)) }
     ensures broken { OnErr result (HasBroken script.now
         (record { shelves = map M.blocks from.old.shelves.items; faults = map M.faults from.old.shelves.items })
         (record { shelves = map M.blocks to.old.shelves.items; faults = map M.faults to.old.shelves.items }) (K.bytes output.old)
         (record { shelves = map M.blocks from.new.shelves.items; faults = map M.faults from.new.shelves.items })
         (record { shelves = map M.blocks to.new.shelves.items; faults = map M.faults to.new.shelves.items })
-        (map data_pages from.new.ram) (map data_pages to.new.ram) (K.bytes output.new)) }
+        (window_pages from.new.ram) (window_pages to.new.ram) (K.bytes output.new)) }
     ensures cause { HasCause (K.faults output.old) (K.faults output.new) result }
 {
     let Room {
@@ -198,8 +196,7 @@ fn run_lane<K: Sink, M: Medium>(
 ) -> Result<Ending, Failed>
     requires taken { IsTaken script.now }
     requires lane { (lane.now.lane ≡ 1) × IsLaneOf script.now lane.now }
-    requires sound { IsSound lane.now script.now.head.burst pair.old }
-    requires new { lane_state [] pair.old ≡ new_lane 0 }
+    requires new { IsNewPair lane.now script.now.head.burst pair.old }
     requires room { 512 ≤ vec_capacity events.old }
     requires from_ram { from_ram.old ≡ windows_made 1 (lane.now.set.pages ∷ []) }
     requires to_ram { to_ram.old ≡ windows_made 1 (lane.now.set.pages ∷ []) }
@@ -210,11 +207,11 @@ fn run_lane<K: Sink, M: Medium>(
     ensures ran { IfOk result (λ ending. HasEnded script.now ending
         (record { shelves = map M.blocks from.old; faults = map M.faults from.old }) (record { shelves = map M.blocks to.old; faults = map M.faults to.old }) (K.bytes output.old)
         (record { shelves = map M.blocks from.new; faults = map M.faults from.new }) (record { shelves = map M.blocks to.new; faults = map M.faults to.new })
-        (map data_pages from_ram.new) (map data_pages to_ram.new) (K.bytes output.new)) }
+        (window_pages from_ram.new) (window_pages to_ram.new) (K.bytes output.new)) }
     ensures broken { OnErr result (HasBroken script.now
         (record { shelves = map M.blocks from.old; faults = map M.faults from.old }) (record { shelves = map M.blocks to.old; faults = map M.faults to.old }) (K.bytes output.old)
         (record { shelves = map M.blocks from.new; faults = map M.faults from.new }) (record { shelves = map M.blocks to.new; faults = map M.faults to.new })
-        (map data_pages from_ram.new) (map data_pages to_ram.new) (K.bytes output.new)) }
+        (window_pages from_ram.new) (window_pages to_ram.new) (K.bytes output.new)) }
     ensures cause { HasCause (K.faults output.old) (K.faults output.new) result }
 {
     match run(

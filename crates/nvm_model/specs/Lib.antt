@@ -6,3 +6,4 @@ pub mod Event
 pub mod History
 pub mod Text
 pub mod ScriptText
+pub mod Ring

@@ -4,10 +4,12 @@
 
 mod command;
 mod line;
+mod ring;
 mod script;
 mod trace;
 
 pub use command::{Command, Completion, Outcome, Pages, Work};
 pub use line::Line;
+pub use ring::RingState;
 pub use script::{Act, Acts, Head, LaneSet, Script};
 pub use trace::Step;

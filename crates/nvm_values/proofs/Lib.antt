@@ -1,0 +1,3 @@
+pub mod CqeLemmas
+pub mod PlaceLemmas
+pub mod SqeLemmas

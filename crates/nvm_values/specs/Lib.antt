@@ -1,3 +1,4 @@
+pub mod Cqe
 pub mod Op
 pub mod Sqe
 pub mod Status

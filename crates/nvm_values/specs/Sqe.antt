@@ -1,4 +1,4 @@
-use Rattle.std.specs.Prelude.{ℕ, ◌+◌, ◌*◌, ◌/◌, ◌%◌, List, [], ◌∷◌, ◌++◌, take, drop, slice_index}
+use Rattle.std.specs.Prelude.{◌<◌, ◌^◌, ℕ, ◌+◌, ◌*◌, ◌/◌, ◌%◌, List, [], ◌∷◌, ◌++◌, take, drop, slice_index}
 use Rattle.std.specs.Int.{Width, w16, w32, w64, byte_len, to_le_bytes, from_le_bytes}
 use Rattle.nvm_values.specs.declared.sqe.Sqe.{Sqe}
 
@@ -45,3 +45,21 @@ sqe_of bytes = record {
   cdw14 = number_at w32 56 bytes;
   cdw15 = number_at w32 60 bytes;
 }
+
+-- each number of the entry fits its field
+pub record IsSqe (e : Sqe) : Type 0 where
+  pub opcode : e.opcode < 2 ^ 8
+  pub flags : e.flags < 2 ^ 8
+  pub cid : e.cid < 2 ^ 16
+  pub nsid : e.nsid < 2 ^ 32
+  pub cdw2 : e.cdw2 < 2 ^ 32
+  pub cdw3 : e.cdw3 < 2 ^ 32
+  pub mptr : e.mptr < 2 ^ 64
+  pub prp1 : e.prp1 < 2 ^ 64
+  pub prp2 : e.prp2 < 2 ^ 64
+  pub cdw10 : e.cdw10 < 2 ^ 32
+  pub cdw11 : e.cdw11 < 2 ^ 32
+  pub cdw12 : e.cdw12 < 2 ^ 32
+  pub cdw13 : e.cdw13 < 2 ^ 32
+  pub cdw14 : e.cdw14 < 2 ^ 32
+  pub cdw15 : e.cdw15 < 2 ^ 32

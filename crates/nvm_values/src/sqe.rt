@@ -1,6 +1,7 @@
-ghost use Rattle.std.specs.Prelude.{◌≡◌, ◌+◌, ◌≤◌, length};
-ghost use Rattle.std.specs.Int.{w16, w32, w64};
-ghost use Rattle.nvm_values.specs.Sqe.{fuse_of, psdt_of, slba_of, count_of, number_at, sqe_of};
+ghost use Rattle.std.specs.Prelude.{◌≡◌};
+ghost use Rattle.nvm_values.specs.Sqe.{IsSqe, fuse_of, psdt_of, slba_of, count_of, sqe_bytes, sqe_of};
+
+use crate::bytes::{put_u16, put_u32, put_u64, u16_at, u32_at, u64_at};
 
 /// A submission queue entry (Base 2.1, section 4.1.1), dword by dword where no command of the set names a field.
 #[derive(Clone, Copy, Debug, PartialEq, Eq)]
@@ -55,7 +56,9 @@ impl Sqe {
 impl Sqe {
     /// The entry of these 64 bytes. Any 64 bytes are one.
     pub fn from_bytes(b: &[u8; 64]) -> Sqe
-        ensures { result ≡ sqe_of b.now }
+        ensures fields { result ≡ sqe_of b.now }
+        ensures back { sqe_bytes result ≡ b.now }
+        ensures fits { IsSqe result }
     {
         Sqe {
             opcode: b[0],
@@ -75,31 +78,37 @@ impl Sqe {
             cdw15: u32_at(b, 60),
         }
     }
+
+    /// The 64 bytes of this entry.
+    pub fn to_bytes(&self) -> [u8; 64]
+        ensures bytes { result ≡ sqe_bytes self.now }
+        ensures back { sqe_of result ≡ self.now }
+        ensures fits { IsSqe self.now }
+    {
+        bytes_of(*self)
+    }
 }
 
-fn u16_at(b: &[u8], at: usize) -> u16
-    requires { at + 2 ≤ length b.now }
-    ensures { result ≡ number_at w16 at b.now }
+// The entry comes by value, so that the clauses know that its numbers fit.
+fn bytes_of(entry: Sqe) -> [u8; 64]
+    ensures bytes { result ≡ sqe_bytes entry }
+    ensures fits { IsSqe entry }
 {
-    let mut field = [0u8; 2];
-    field.copy_from_slice(&b[at..at + 2]);
-    u16::from_le_bytes(field)
-}
-
-fn u32_at(b: &[u8], at: usize) -> u32
-    requires { at + 4 ≤ length b.now }
-    ensures { result ≡ number_at w32 at b.now }
-{
-    let mut field = [0u8; 4];
-    field.copy_from_slice(&b[at..at + 4]);
-    u32::from_le_bytes(field)
-}
-
-fn u64_at(b: &[u8], at: usize) -> u64
-    requires { at + 8 ≤ length b.now }
-    ensures { result ≡ number_at w64 at b.now }
-{
-    let mut field = [0u8; 8];
-    field.copy_from_slice(&b[at..at + 8]);
-    u64::from_le_bytes(field)
+    let mut out = [0u8; 64];
+    out[0] = entry.opcode;
+    out[1] = entry.flags;
+    put_u16(&mut out, 2, entry.cid);
+    put_u32(&mut out, 4, entry.nsid);
+    put_u32(&mut out, 8, entry.cdw2);
+    put_u32(&mut out, 12, entry.cdw3);
+    put_u64(&mut out, 16, entry.mptr);
+    put_u64(&mut out, 24, entry.prp1);
+    put_u64(&mut out, 32, entry.prp2);
+    put_u32(&mut out, 40, entry.cdw10);
+    put_u32(&mut out, 44, entry.cdw11);
+    put_u32(&mut out, 48, entry.cdw12);
+    put_u32(&mut out, 52, entry.cdw13);
+    put_u32(&mut out, 56, entry.cdw14);
+    put_u32(&mut out, 60, entry.cdw15);
+    out
 }

@@ -1,10 +1,15 @@
+pub mod ChangeLemmas
 pub mod CheckLemmas
+pub mod ControlLemmas
 pub mod CopyLemmas
+pub mod GuestLemmas
 pub mod GoesLemmas
 pub mod LaneLemmas
 pub mod PieceLemmas
 pub mod RangeLemmas
 pub mod RestLemmas
+pub mod StandsLemmas
+pub mod LeadsLemmas
 pub mod RunLemmas
 pub mod TextLemmas
 pub mod WorkLemmas

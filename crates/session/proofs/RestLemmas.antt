@@ -29,9 +29,8 @@ use Rattle.nvm_model.specs.ScriptText.{IsSet}
 use Rattle.nvm_model.specs.World.{Lane, set_of, acts_of, IsQuiet}
 use Rattle.session.specs.declared.lane_script.LaneScript.{LaneScript}
 use Rattle.session.specs.declared.piece.Piece.{Piece}
-use Rattle.session.specs.declared.queue_pair.QueuePair.{QueuePair}
 use Rattle.session.specs.Check.{early_decision, HasPassed, late_command}
-use Rattle.session.specs.State.{IsLaneOf, IsSound, lane_state}
+use Rattle.session.specs.State.{IsLaneOf}
 use Rattle.session.specs.Work.{EqualsAt}
 use Rattle.session.specs.Rest.{IsServed, IsAtRest, CanEnd}
 use Rattle.session.proofs.CheckLemmas.{stopped, passed_on, has_passed}
@@ -294,18 +293,3 @@ can_end s k blocks lane served rest = ends_below s k (ahead s k lane + 1) served
 -- what a script says of a lane serves it
 pub is_served : (s : Script) (ls : LaneScript) → s.head.shelf ≡ s.head.blocks → IsLaneOf s ls → IsServed s ls.lane
 is_served s ls one is = record { set = subst IsSet is.set_is is.set_fits; one = one }
-
--- a sound pair with no running command is at rest
-pub at_rest : (s : Script) (ls : LaneScript) (burst : ℕ) (memory : List (List ℕ)) (pair : QueuePair) → IsLaneOf s ls → IsSound ls burst pair → pair.running.items ≡ [] →
-    IsAtRest s ls.lane (lane_state memory pair)
-at_rest s ls burst memory pair is sound none =
-    let none_running : length pair.running.items ≡ 0 = ap length none in
-    let posted : length pair.posted.items ≡ pair.fetched = omega arith in
-    record {
-      acts = subst (λ (acts : List Act). pair.acts_done ≤ length acts) is.acts_are sound.acts;
-      none = none;
-      fetched = sound.fetched;
-      posted = posted;
-      reaped = sound.reaped;
-      told = subst (λ (set : LaneSet). head_of_last pair.posted.items pair.fetched ≡ pair.fetched % set.sq) is.set_is (sound.last posted);
-    }

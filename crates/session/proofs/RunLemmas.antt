@@ -1,6 +1,7 @@
-use Rattle.std.proofs.Common.{◌≡◌, ℕ, ◌+◌, ◌≤◌, Bool, true, false, cond, List, [], ◌∷◌, ◌++◌, Option, Some, None, All, length, refl, sym, ap, subst, ◌∙◌, append_assoc, append-nil, arith}
+use Rattle.std.proofs.Common.{◌≡◌, ℕ, ◌+◌, ◌≤◌, Bool, true, false, cond, List, [], ◌∷◌, ◌++◌, Option, Some, None, All, drop, get_or, length, replicate, take, refl, sym, ap, subst, ◌∙◌, append_assoc, append-nil, arith}
 use Rattle.std.proofs.lemmas.List.Sums.{sum_by-append}
 use Rattle.std.specs.List.{AllByRecursion}
+use Rattle.std.specs.Prelude.{slice_set}
 use Rattle.mig_base.specs.Stream.{with_more}
 use Rattle.nvm_model.specs.declared.line.Line.{Line}
 use Rattle.nvm_model.specs.declared.line.Line.TheVariants as line
@@ -8,25 +9,31 @@ use Rattle.nvm_model.specs.declared.script.Act.{Act}
 use Rattle.nvm_model.specs.declared.script.LaneSet.{LaneSet}
 use Rattle.nvm_model.specs.declared.script.Script.{Script}
 use Rattle.nvm_model.specs.History.{faults_shown, shows_fault}
+use Rattle.nvm_model.specs.Memory.{zero_page}
+use Rattle.nvm_ring.proofs.RingLemmas.{sq_ring-start, cq_page_is-start}
+use Rattle.nvm_model.specs.Ring.{lane_window}
 use Rattle.nvm_model.specs.ScriptText.{IsHead, IsSet, IsAct}
 use Rattle.nvm_model.specs.Text.{IsLine, text_of, line_text}
 use Rattle.nvm_model.specs.World.{Lane, IsQuiet, acts_of, set_of, new_lane}
 use Rattle.session.specs.declared.ending.Ending.{Ending}
 use Rattle.session.specs.declared.ending.Ending.TheVariants.{Done, GaveUp}
-use Rattle.session.specs.declared.lane_script.LaneScript.{LaneScript}
+use Rattle.guest_ram.specs.Window.{WindowState}
 use Rattle.session.specs.declared.queue_pair.QueuePair.{QueuePair}
+use Rattle.session.specs.declared.lane_script.LaneScript.{LaneScript}
 use Rattle.session.specs.Goes.{LaneSteps, Goes}
 use Rattle.session.specs.Range.{IsInRange}
-use Rattle.session.specs.Rest.{CanEnd}
-use Rattle.session.specs.Run.{HasTurned, moving_lines, AreMoving, WholeRun, body_of, SidesHold, RoseTogether, HasMoved, HasRun, HasStopped, IfTold, framed, unframed}
-use Rattle.session.specs.Side.{AreCopied}
-use Rattle.session.specs.State.{lane_state, IsLaneOf, IsSound, IsPairComplete}
+use Rattle.session.specs.Rest.{CanEnd, IsAtRest}
+use Rattle.session.specs.Run.{HasTurned, Turns, moving_lines, AreMoving, WholeRun, body_of, SidesHold, RoseTogether, HasMoved, HasRun, HasStopped, IfTold, framed, unframed}
+use Rattle.session.specs.Leads.{TurnsTo}
+use Rattle.session.specs.Side.{AreCopied, HasMemory, window_of}
+use Rattle.session.specs.State.{IsLaneOf, IsNewPair, IsPairComplete, Stands}
 use Rattle.session.specs.Work.{IsSized}
 use Rattle.session.specs.Written.{IsCut, IsWritten}
 use Rattle.session.proofs.CopyLemmas.{all_copied}
 use Rattle.session.proofs.GoesLemmas.{told_more, rises_more, told_none, steps_more}
 use Rattle.session.proofs.RangeLemmas.{new_in_range, lines_in_range}
-use Rattle.session.proofs.RestLemmas.{can_end, is_served, at_rest}
+use Rattle.session.proofs.RestLemmas.{can_end, is_served}
+use Rattle.session.proofs.StandsLemmas.{at_rest, new_stands, quiet_is}
 use Rattle.session.proofs.TextLemmas.{lines_more, lines_cut_longer, lines_cut_after}
 
 -- Turns, one after another.
@@ -74,20 +81,60 @@ turned_more {whole} {s} {k} {a} {f} {lane} {start_bytes} {b} {g} {mid} {bytes} {
   later = omega (arith, x.later, y.later);
 }
 
+-- the same of whichever lane a window and a queue pair stand for
+pub turns_none : {s : Script} {ls : LaneScript} (told : Option (List (List ℕ))) (faults : ℕ) {window : WindowState} {pair : QueuePair} (bytes : Option (List ℕ)) → Turns true s ls told faults window pair bytes told faults window pair bytes
+turns_none {s} {ls} told faults bytes = λ lane stands. record { lane = lane; stands = stands; turned = turned_none s ls.lane told faults lane bytes }
+
+pub turns_more : {whole : Bool} {s : Script} {ls : LaneScript} {a : Option (List (List ℕ))} {f : ℕ} {window : WindowState} {pair : QueuePair} {start_bytes : Option (List ℕ)} {b : Option (List (List ℕ))} {g : ℕ} {mid_window : WindowState} {mid : QueuePair} {bytes : Option (List ℕ)} {c : Option (List (List ℕ))} {h : ℕ} {new_window : WindowState} {new : QueuePair} {new_bytes : Option (List ℕ)} →
+    Turns true s ls a f window pair start_bytes b g mid_window mid bytes → Turns whole s ls b g mid_window mid bytes c h new_window new new_bytes → Turns whole s ls a f window pair start_bytes c h new_window new new_bytes
+turns_more x y = λ lane stands.
+    let first = x lane stands in
+    let second = y first.lane first.stands in
+    record { lane = second.lane; stands = second.stands; turned = turned_more first.turned second.turned }
+
+-- a turn's events were written, all or a front of them
+pub turn_turns : {whole : Bool} {s : Script} {ls : LaneScript} {a : Option (List (List ℕ))} {f : ℕ} {window : WindowState} {pair : QueuePair} {b : Option (List (List ℕ))} {g : ℕ} {new_window : WindowState} {new : QueuePair} {events : List Line} {bytes new_bytes : Option (List ℕ)} →
+    ((lane : Lane) → Stands ls s.head.burst window pair lane → TurnsTo s ls lane a f b g new_window new events) → IsWritten whole (text_of events) bytes new_bytes → Turns whole s ls a f window pair bytes b g new_window new new_bytes
+turn_turns turns written = λ lane stands.
+    let turn = turns lane stands in
+    record { lane = turn.new; stands = turn.stands; turned = turn_written turn.goes written }
+
+-- the lane of a host's one window
+only_lane : (ls : LaneScript) (ram : List WindowState) → HasMemory ls ram → (window_of ram).lane ≡ ls.lane
+only_lane ls [] has = let e = ap length has in absurd (omega arith)
+only_lane ls (w ∷ rest) has = ap (λ (shapes : List (ℕ × ℕ)). (get_or shapes 0 (0, 0)).0) has
+
+-- a host's one window, however it is looked up
+pub same_window : (ls : LaneScript) (other : WindowState) (ram windows : List WindowState) → HasMemory ls ram → windows ≡ ram → get_or windows 0 other ≡ window_of ram
+same_window ls other [] windows has same = let e = ap length has in absurd (omega arith)
+same_window ls other (r ∷ rest) windows has same = ap (λ (ws : List WindowState). get_or ws 0 other) same
+
+-- a host's windows after another was put in the place of its one
+pub only_window : (ls : LaneScript) (x : WindowState) (ram windows : List WindowState) → HasMemory ls ram → windows ≡ ram → take (length ram) (slice_set windows 0 x ++ drop (length (slice_set windows 0 x)) ram) ≡ x ∷ []
+only_window ls x [] windows has same = let e = ap length has in absurd (omega arith)
+only_window ls x (r ∷ []) windows has same = ap (λ (ws : List WindowState). take 1 (slice_set ws 0 x ++ drop (length (slice_set ws 0 x)) (r ∷ []))) same
+only_window ls x (r ∷ q ∷ rest) windows has same = let e = ap length has in absurd (omega arith)
+
+-- a new queue pair over a zeroed window stands for a new lane
+pub starts : {s : Script} {ls : LaneScript} {pair : QueuePair} (ram : List WindowState) → IsLaneOf s ls → HasMemory ls ram → (window_of ram).pages ≡ replicate (ls.set.pages + 2) zero_page → IsNewPair ls s.head.burst pair → Stands ls s.head.burst (window_of ram) pair (new_lane ls.set.pages)
+starts {ls = ls} ram is memory zeroed new =
+    new_stands is.set_fits (ap (λ (pages : List (List ℕ)). record { lane = (window_of ram).lane; pages = pages }) zeroed ∙ ap (λ (k : ℕ). record { lane = k; pages = replicate (ls.set.pages + 2) zero_page }) (only_lane ls ram memory)) new
+    (sq_ring-start ls.set.sq zero_page (omega (arith, is.set_fits.0))) (cq_page_is-start ls.set.cq is.set_fits.3)
+
 -- The end of a lane's run.
 
 -- between two turns
-pub record Between (s : Script) (ls : LaneScript) (pair : QueuePair) : Type 0 where
-  pub head : IsHead s.head
+pub record Between (s : Script) (ls : LaneScript) (lane : Lane) : Type 0 where
   pub shelf : s.head.shelf ≡ s.head.blocks
-  pub lane : IsLaneOf s ls
-  pub sound : IsSound ls s.head.burst pair
-  pub none : pair.running.items ≡ []
+  pub is_lane : IsLaneOf s ls
+  pub rest : IsAtRest s ls.lane lane
+
+pub between : {s : Script} {ls : LaneScript} {window : WindowState} {pair : QueuePair} {lane : Lane} → s.head.shelf ≡ s.head.blocks → IsLaneOf s ls → Stands ls s.head.burst window pair lane → pair.running.items ≡ [] → Between s ls lane
+between {s} one is stands none = record { shelf = one; is_lane = is; rest = at_rest s is stands none }
 
 -- its run can be brought to its end
-pub goes_to_end : (s : Script) (ls : LaneScript) (pair : QueuePair) (memory : List (List ℕ)) → Between s ls pair → (blocks : List (List ℕ)) → CanEnd s ls.lane blocks (lane_state memory pair)
-goes_to_end s ls pair memory between blocks =
-    can_end s ls.lane blocks (lane_state memory pair) (is_served s ls between.shelf between.lane) (at_rest s ls s.head.burst memory pair between.lane between.sound between.none)
+pub goes_to_end : (s : Script) (ls : LaneScript) (lane : Lane) → Between s ls lane → (blocks : List (List ℕ)) → CanEnd s ls.lane blocks lane
+goes_to_end s ls lane between blocks = can_end s ls.lane blocks lane (is_served s ls between.shelf between.is_lane) between.rest
 
 -- What a whole run is made of: turns, the lines of a move, and turns.
 
@@ -134,14 +181,14 @@ pub record Fits (s : Script) (k : ℕ) (start : Lane) : Type 0 where
   pub few : length (acts_of k s.acts) ≤ 65536
   pub range : IsInRange s start
 
-pub fits : (s : Script) (ls : LaneScript) (memory : List (List ℕ)) (pair : QueuePair) → IsHead s.head → IsLaneOf s ls → lane_state [] pair ≡ new_lane 0 → Fits s ls.lane (lane_state memory pair)
-fits s ls memory pair head is new = record {
+pub fits : (s : Script) (ls : LaneScript) → IsHead s.head → IsLaneOf s ls → Fits s ls.lane (new_lane ls.set.pages)
+fits s ls head is = record {
   head = head;
   lane = is.lane;
   set = subst IsSet is.set_is is.set_fits;
   acts = subst (λ (set : LaneSet). All (IsAct set.pages) (acts_of ls.lane s.acts)) is.set_is (subst (λ (acts : List Act). All (IsAct ls.set.pages) acts) is.acts_are is.acts_fit);
   few = subst (λ (acts : List Act). length acts ≤ 65536) is.acts_are is.few;
-  range = new_in_range s (lane_state memory pair) (ap (λ (l : Lane). l.submitted) new) (ap (λ (l : Lane). l.running) new) (ap (λ (l : Lane). l.posted) new);
+  range = new_in_range s (new_lane ls.set.pages) refl refl refl;
 }
 
 -- lines, and then further lines
@@ -165,13 +212,13 @@ parts_are_lines {s} {k} {wish} {ending} {blocks} {start} {mid_blocks} {mid} {new
 -- a run is whole where all its parts were written
 ran : {s : Script} {k : ℕ} {wish : Option ℕ} {ending : Ending} {blocks : List (List ℕ)} {start : Lane} {mid_blocks : List (List ℕ)} {mid : Lane} {new_blocks : List (List ℕ)} {new : Lane} {f t : ℕ} {bytes : Option (List ℕ)} {from_told : Option (List (List ℕ))} {from_memory : List (List ℕ)} {to_told : Option (List (List ℕ))} {to_memory : List (List ℕ)} {new_f new_t : ℕ} {new_bytes : Option (List ℕ)} →
     Fits s k start → (p : Parts s k wish ending blocks start mid_blocks mid new_blocks new) → new_bytes ≡ with_more (text_of (p.before ++ (p.moving ++ p.after))) bytes →
-    SidesHold wish ending mid_blocks mid new_blocks new from_told from_memory to_told to_memory → RoseTogether (faults_shown p.before + (faults_shown p.moving + faults_shown p.after)) f t new_f new_t →
+    SidesHold (lane_window s.head k) wish ending mid_blocks mid new_blocks new from_told from_memory to_told to_memory → RoseTogether (faults_shown p.before + (faults_shown p.moving + faults_shown p.after)) f t new_f new_t →
     HasRun unframed s k start ending f t bytes from_told from_memory to_told to_memory new_f new_t new_bytes blocks
-ran {ending} {mid_blocks} {mid} {new_blocks} {new} {f} {t} {from_told} {from_memory} {to_told} {to_memory} {new_f} {new_t} fit p text holds causes = record {
+ran {s} {k} {ending} {mid_blocks} {mid} {new_blocks} {new} {f} {t} {from_told} {from_memory} {to_told} {to_memory} {new_f} {new_t} fit p text holds causes = record {
   run = whole_run p;
   lines = parts_are_lines fit p;
   text = text;
-  holds = subst (λ (w : Option ℕ). SidesHold w ending mid_blocks mid new_blocks new from_told from_memory to_told to_memory) (sym p.wish_is) holds;
+  holds = subst (λ (w : Option ℕ). SidesHold (lane_window s.head k) w ending mid_blocks mid new_blocks new from_told from_memory to_told to_memory) (sym p.wish_is) holds;
   causes = subst (λ (n : ℕ). RoseTogether n f t new_f new_t) (sym (three_faults p.before p.moving p.after)) causes;
 }
 
@@ -205,35 +252,32 @@ pub record IsEnd (s : Script) (k : ℕ) (lane : Lane) : Type 0 where
   pub acts_done : lane.acts ≡ length (acts_of k s.acts)
   pub quiet : IsQuiet lane
 
-pub is_end : (s : Script) (ls : LaneScript) (pair : QueuePair) (memory : List (List ℕ)) → IsLaneOf s ls → IsPairComplete ls pair → IsEnd s ls.lane (lane_state memory pair)
-is_end s ls pair memory lane complete = record {
-  acts_done = complete.0 ∙ ap length lane.acts_are;
-  quiet = record { all_fetched = complete.1.0; none_running = complete.1.1; all_reaped = complete.1.2 };
-}
+pub is_end : {s : Script} {ls : LaneScript} {window : WindowState} {pair : QueuePair} {lane : Lane} → IsLaneOf s ls → Stands ls s.head.burst window pair lane → IsPairComplete ls pair → IsEnd s ls.lane lane
+is_end is stands complete = record { acts_done = stands.numbers.acts ∙ complete.0 ∙ ap length is.acts_are; quiet = quiet_is stands complete.1 }
 
 -- The runs of a script that asks for no migration.
 
-pub stayed : {s : Script} {k : ℕ} {f : ℕ} {start : Lane} {bytes : Option (List ℕ)} {g : ℕ} {lane : Lane} {new_bytes : Option (List ℕ)} (t : ℕ) (new_to_told : Option (List (List ℕ))) (to_memory : List (List ℕ)) (told to_told new_told : Option (List (List ℕ))) →
-    Fits s k start → s.head.migrate ≡ None → HasTurned true s k told f start bytes new_told g lane new_bytes → IsEnd s k lane →
-    IfTold told to_told (HasRun unframed s k start Done f t bytes new_told lane.pages new_to_told to_memory g t new_bytes)
-stayed t new_to_told to_memory None to_told new_told fit none x end = tt
-stayed t new_to_told to_memory (Some blocks) None new_told fit none x end = tt
-stayed t new_to_told to_memory (Some blocks) (Some to) None fit none x end = absurd x.steps
-stayed {s} {k} {f} {bytes} {g} {lane} {new_bytes} t new_to_told to_memory (Some blocks) (Some to) (Some new_blocks) fit none x end = ran fit
+pub stayed : {s : Script} {k : ℕ} {f : ℕ} {start : Lane} {bytes : Option (List ℕ)} {g : ℕ} {lane : Lane} {memory : List (List ℕ)} {new_bytes : Option (List ℕ)} (t : ℕ) (new_to_told : Option (List (List ℕ))) (to_memory : List (List ℕ)) (told to_told new_told : Option (List (List ℕ))) →
+    Fits s k start → s.head.migrate ≡ None → HasTurned true s k told f start bytes new_told g lane new_bytes → IsEnd s k lane → memory ≡ lane_window s.head k lane →
+    IfTold told to_told (HasRun unframed s k start Done f t bytes new_told memory new_to_told to_memory g t new_bytes)
+stayed t new_to_told to_memory None to_told new_told fit none x end holds = tt
+stayed t new_to_told to_memory (Some blocks) None new_told fit none x end holds = tt
+stayed t new_to_told to_memory (Some blocks) (Some to) None fit none x end holds = absurd x.steps
+stayed {s} {k} {f} {bytes} {g} {lane} {new_bytes} t new_to_told to_memory (Some blocks) (Some to) (Some new_blocks) fit none x end holds = ran fit
     (record { wish_is = none; before = x.events; moving = []; after = []; steps_before = x.steps; are_moving = refl; steps_after = (refl, refl); acts_done = end.acts_done; quiet = end.quiet })
     (subst (λ (es : List Line). new_bytes ≡ with_more (text_of es) bytes) (sym (append-nil x.events)) x.text)
-    (refl, refl)
+    (refl, holds)
     (λ small other. omega (arith, x.causes, x.later, small))
 
 -- A run of which the turns before a migration were written in part: whatever the script asks for.
-pub stopped_before : {s : Script} {ls : LaneScript} {pair : QueuePair} {memory : List (List ℕ)} {f : ℕ} {start : Lane} {bytes : Option (List ℕ)} {g : ℕ} {new_bytes : Option (List ℕ)} (t : ℕ) (told to_told new_told : Option (List (List ℕ))) →
-    Fits s ls.lane start → Between s ls pair → HasTurned false s ls.lane told f start bytes new_told g (lane_state memory pair) new_bytes →
+pub stopped_before : {s : Script} {ls : LaneScript} {last : Lane} {f : ℕ} {start : Lane} {bytes : Option (List ℕ)} {g : ℕ} {new_bytes : Option (List ℕ)} (t : ℕ) (told to_told new_told : Option (List (List ℕ))) →
+    Fits s ls.lane start → Between s ls last → HasTurned false s ls.lane told f start bytes new_told g last new_bytes →
     IfTold told to_told (HasStopped unframed s ls.lane start f t bytes g t new_bytes)
 stopped_before t None to_told new_told fit between x = tt
 stopped_before t (Some blocks) None new_told fit between x = tt
 stopped_before t (Some blocks) (Some to) None fit between x = absurd x.steps
-stopped_before {s} {ls} {pair} {memory} {f} {start} {bytes} {g} {new_bytes} t (Some blocks) (Some to) (Some new_blocks) fit between x =
-    let rest = goes_to_end s ls pair memory between new_blocks in
+stopped_before {s} {ls} {last} {f} {start} {bytes} {g} {new_bytes} t (Some blocks) (Some to) (Some new_blocks) fit between x =
+    let rest = goes_to_end s ls last between new_blocks in
     let wish = s.head.migrate in
     let lines = planned s ls.lane wish in
     let calm = planned_calm s ls.lane wish in
@@ -245,17 +289,17 @@ stopped_before {s} {ls} {pair} {memory} {f} {start} {bytes} {g} {new_bytes} t (S
 
 -- The runs of a script that asks for one.
 
-pub moved : {s : Script} {k turn : ℕ} {f t : ℕ} {start : Lane} {bytes : Option (List ℕ)} {g : ℕ} {lane : Lane} {mid_bytes : Option (List ℕ)} {h u : ℕ} {moved_bytes : Option (List ℕ)} {v : ℕ} {new : Lane} {new_bytes : Option (List ℕ)} (n : ℕ) (told to_told mid_told moved_told new_told : Option (List (List ℕ))) →
+pub moved : {s : Script} {k turn : ℕ} {f t : ℕ} {start : Lane} {bytes : Option (List ℕ)} {g : ℕ} {lane : Lane} {mid_bytes : Option (List ℕ)} {h u : ℕ} {moved_bytes : Option (List ℕ)} {v : ℕ} {new : Lane} {from_memory new_memory : List (List ℕ)} {new_bytes : Option (List ℕ)} (n : ℕ) (told to_told mid_told moved_told new_told : Option (List (List ℕ))) →
     Fits s k start → s.head.migrate ≡ Some turn → HasTurned true s k told f start bytes mid_told g lane mid_bytes →
     HasMoved true s k Done g t mid_bytes h u moved_bytes → g ≤ h → t ≤ u → AreCopied n mid_told to_told moved_told → IsSized mid_told n → IsSized moved_told n →
-    HasTurned true s k moved_told u lane moved_bytes new_told v new new_bytes → IsEnd s k new →
-    IfTold told to_told (HasRun unframed s k start Done f t bytes mid_told lane.pages new_told new.pages h v new_bytes)
-moved n None to_told mid_told moved_told new_told fit asked x m from_later to_later copied sized to_sized y end = tt
-moved n (Some blocks) None mid_told moved_told new_told fit asked x m from_later to_later copied sized to_sized y end = tt
-moved n (Some blocks) (Some to) None moved_told new_told fit asked x m from_later to_later copied sized to_sized y end = absurd x.steps
-moved n (Some blocks) (Some to) (Some mid) None new_told fit asked x m from_later to_later copied sized to_sized y end = absurd copied
-moved n (Some blocks) (Some to) (Some mid) (Some same) None fit asked x m from_later to_later copied sized to_sized y end = absurd y.steps
-moved {s} {k} {f} {t} {bytes} {g} {lane} {mid_bytes} {h} {u} {moved_bytes} {v} {new} {new_bytes} n (Some blocks) (Some to) (Some mid) (Some same) (Some new_blocks) fit asked x m from_later to_later copied sized to_sized y end =
+    HasTurned true s k moved_told u lane moved_bytes new_told v new new_bytes → IsEnd s k new → from_memory ≡ lane_window s.head k lane → new_memory ≡ lane_window s.head k new →
+    IfTold told to_told (HasRun unframed s k start Done f t bytes mid_told from_memory new_told new_memory h v new_bytes)
+moved n None to_told mid_told moved_told new_told fit asked x m from_later to_later copied sized to_sized y end from_holds holds = tt
+moved n (Some blocks) None mid_told moved_told new_told fit asked x m from_later to_later copied sized to_sized y end from_holds holds = tt
+moved n (Some blocks) (Some to) None moved_told new_told fit asked x m from_later to_later copied sized to_sized y end from_holds holds = absurd x.steps
+moved n (Some blocks) (Some to) (Some mid) None new_told fit asked x m from_later to_later copied sized to_sized y end from_holds holds = absurd copied
+moved n (Some blocks) (Some to) (Some mid) (Some same) None fit asked x m from_later to_later copied sized to_sized y end from_holds holds = absurd y.steps
+moved {s} {k} {f} {t} {bytes} {g} {lane} {mid_bytes} {h} {u} {moved_bytes} {v} {new} {new_bytes} n (Some blocks) (Some to) (Some mid) (Some same) (Some new_blocks) fit asked x m from_later to_later copied sized to_sized y end from_holds holds =
     let is : same ≡ mid = all_copied n mid same sized to_sized copied in
     ran fit
     (record {
@@ -270,35 +314,35 @@ moved {s} {k} {f} {t} {bytes} {g} {lane} {mid_bytes} {h} {u} {moved_bytes} {v} {
       quiet = end.quiet;
     })
     (lines_more x.events (moving_lines s k Done ++ y.events) bytes mid_bytes new_bytes x.text (lines_more (moving_lines s k Done) y.events mid_bytes moved_bytes new_bytes m.text y.text))
-    (refl, refl, refl, refl)
+    (refl, from_holds, refl, holds)
     (λ small other. omega (arith, x.causes, x.later, y.causes, y.later, from_later, to_later, small, other))
 
-pub given_up : {s : Script} {k turn : ℕ} {f t : ℕ} {start : Lane} {bytes : Option (List ℕ)} {g : ℕ} {lane : Lane} {mid_bytes : Option (List ℕ)} {h u : ℕ} {moved_bytes : Option (List ℕ)} {v : ℕ} {new : Lane} {new_bytes : Option (List ℕ)} (new_to_told : Option (List (List ℕ))) (to_memory : List (List ℕ)) (told to_told mid_told new_told : Option (List (List ℕ))) →
+pub given_up : {s : Script} {k turn : ℕ} {f t : ℕ} {start : Lane} {bytes : Option (List ℕ)} {g : ℕ} {lane : Lane} {mid_bytes : Option (List ℕ)} {h u : ℕ} {moved_bytes : Option (List ℕ)} {v : ℕ} {new : Lane} {memory : List (List ℕ)} {new_bytes : Option (List ℕ)} (new_to_told : Option (List (List ℕ))) (to_memory : List (List ℕ)) (told to_told mid_told new_told : Option (List (List ℕ))) →
     Fits s k start → s.head.migrate ≡ Some turn → HasTurned true s k told f start bytes mid_told g lane mid_bytes →
     HasMoved true s k GaveUp g t mid_bytes h u moved_bytes → g ≤ h → t ≤ u →
-    HasTurned true s k mid_told h lane moved_bytes new_told v new new_bytes → IsEnd s k new →
-    IfTold told to_told (HasRun unframed s k start GaveUp f t bytes new_told new.pages new_to_told to_memory v u new_bytes)
-given_up new_to_told to_memory None to_told mid_told new_told fit asked x m from_later to_later y end = tt
-given_up new_to_told to_memory (Some blocks) None mid_told new_told fit asked x m from_later to_later y end = tt
-given_up new_to_told to_memory (Some blocks) (Some to) None new_told fit asked x m from_later to_later y end = absurd x.steps
-given_up new_to_told to_memory (Some blocks) (Some to) (Some mid) None fit asked x m from_later to_later y end = absurd y.steps
-given_up {s} {k} {f} {t} {bytes} {g} {lane} {mid_bytes} {h} {u} {moved_bytes} {v} {new} {new_bytes} new_to_told to_memory (Some blocks) (Some to) (Some mid) (Some new_blocks) fit asked x m from_later to_later y end =
+    HasTurned true s k mid_told h lane moved_bytes new_told v new new_bytes → IsEnd s k new → memory ≡ lane_window s.head k new →
+    IfTold told to_told (HasRun unframed s k start GaveUp f t bytes new_told memory new_to_told to_memory v u new_bytes)
+given_up new_to_told to_memory None to_told mid_told new_told fit asked x m from_later to_later y end holds = tt
+given_up new_to_told to_memory (Some blocks) None mid_told new_told fit asked x m from_later to_later y end holds = tt
+given_up new_to_told to_memory (Some blocks) (Some to) None new_told fit asked x m from_later to_later y end holds = absurd x.steps
+given_up new_to_told to_memory (Some blocks) (Some to) (Some mid) None fit asked x m from_later to_later y end holds = absurd y.steps
+given_up {s} {k} {f} {t} {bytes} {g} {lane} {mid_bytes} {h} {u} {moved_bytes} {v} {new} {new_bytes} new_to_told to_memory (Some blocks) (Some to) (Some mid) (Some new_blocks) fit asked x m from_later to_later y end holds =
     ran fit
     (record { wish_is = asked; before = x.events; moving = moving_lines s k GaveUp; after = y.events; steps_before = x.steps; are_moving = refl; steps_after = y.steps; acts_done = end.acts_done; quiet = end.quiet })
     (lines_more x.events (moving_lines s k GaveUp ++ y.events) bytes mid_bytes new_bytes x.text (lines_more (moving_lines s k GaveUp) y.events mid_bytes moved_bytes new_bytes m.text y.text))
-    (refl, refl)
+    (refl, holds)
     (λ small other. let one = m.causes (omega (arith, y.later, small)) other in omega (arith, x.causes, x.later, y.causes, y.later, from_later, to_later, small, other, one))
 
 -- the lines of the move were written in part
-pub stopped_moving : {s : Script} {ls : LaneScript} {pair : QueuePair} {memory : List (List ℕ)} {turn : ℕ} {ending : Ending} {f t : ℕ} {start : Lane} {bytes : Option (List ℕ)} {g : ℕ} {mid_bytes : Option (List ℕ)} {h u : ℕ} {new_bytes : Option (List ℕ)} (told to_told mid_told : Option (List (List ℕ))) →
-    Fits s ls.lane start → s.head.migrate ≡ Some turn → Between s ls pair → HasTurned true s ls.lane told f start bytes mid_told g (lane_state memory pair) mid_bytes →
+pub stopped_moving : {s : Script} {ls : LaneScript} {last : Lane} {turn : ℕ} {ending : Ending} {f t : ℕ} {start : Lane} {bytes : Option (List ℕ)} {g : ℕ} {mid_bytes : Option (List ℕ)} {h u : ℕ} {new_bytes : Option (List ℕ)} (told to_told mid_told : Option (List (List ℕ))) →
+    Fits s ls.lane start → s.head.migrate ≡ Some turn → Between s ls last → HasTurned true s ls.lane told f start bytes mid_told g last mid_bytes →
     HasMoved false s ls.lane ending g t mid_bytes h u new_bytes → g ≤ h → t ≤ u →
     IfTold told to_told (HasStopped unframed s ls.lane start f t bytes h u new_bytes)
 stopped_moving None to_told mid_told fit asked between x m from_later to_later = tt
 stopped_moving (Some blocks) None mid_told fit asked between x m from_later to_later = tt
 stopped_moving (Some blocks) (Some to) None fit asked between x m from_later to_later = absurd x.steps
-stopped_moving {s} {ls} {pair} {memory} {ending} {f} {t} {start} {bytes} {g} {mid_bytes} {h} {u} {new_bytes} (Some blocks) (Some to) (Some mid) fit asked between x m from_later to_later =
-    let rest = goes_to_end s ls pair memory between mid in
+stopped_moving {s} {ls} {last} {ending} {f} {t} {start} {bytes} {g} {mid_bytes} {h} {u} {new_bytes} (Some blocks) (Some to) (Some mid) fit asked between x m from_later to_later =
+    let rest = goes_to_end s ls last between mid in
     let rest_calm = rest.calm in
     let lines = moving_lines s ls.lane ending in
     stopped fit
@@ -307,14 +351,13 @@ stopped_moving {s} {ls} {pair} {memory} {ending} {f} {t} {start} {bytes} {g} {mi
     (λ small other. let moved = m.causes small other in omega (arith, x.causes, x.later, from_later, to_later, small, other, rest_calm, moved))
 
 -- turns after a move were written in part
-stopped_later : {s : Script} {ls : LaneScript} {pair : QueuePair} {turn : ℕ} {f t : ℕ} {start : Lane} {bytes : Option (List ℕ)} {h v : ℕ} {new_bytes : Option (List ℕ)} (memory : List (List ℕ)) (lane : Lane) (ending : Ending) (blocks mid new_blocks : List (List ℕ)) →
-    Fits s ls.lane start → s.head.migrate ≡ Some turn → Between s ls pair → (before : List Line) → LaneSteps s ls.lane blocks start before mid lane → (after : List Line) → LaneSteps s ls.lane mid lane after new_blocks (lane_state memory pair) →
+stopped_later : {s : Script} {ls : LaneScript} {turn : ℕ} {f t : ℕ} {start : Lane} {bytes : Option (List ℕ)} {h v : ℕ} {new_bytes : Option (List ℕ)} (last lane : Lane) (ending : Ending) (blocks mid new_blocks : List (List ℕ)) →
+    Fits s ls.lane start → s.head.migrate ≡ Some turn → Between s ls last → (before : List Line) → LaneSteps s ls.lane blocks start before mid lane → (after : List Line) → LaneSteps s ls.lane mid lane after new_blocks last →
     IsCut (text_of (before ++ (moving_lines s ls.lane ending ++ after))) bytes new_bytes → RoseTogether (faults_shown before + (faults_shown (moving_lines s ls.lane ending) + faults_shown after)) f t h v →
     HasStopped unframed s ls.lane start f t bytes h v new_bytes blocks
-stopped_later {s} {ls} {pair} {f} {t} {start} {bytes} {h} {v} {new_bytes} memory lane ending blocks mid new_blocks fit asked between before steps_before after steps_after cut causes =
-    let new = lane_state memory pair in
+stopped_later {s} {ls} {f} {t} {start} {bytes} {h} {v} {new_bytes} last lane ending blocks mid new_blocks fit asked between before steps_before after steps_after cut causes =
     let lines = moving_lines s ls.lane ending in
-    let rest = goes_to_end s ls pair memory between new_blocks in
+    let rest = goes_to_end s ls last between new_blocks in
     let rest_calm = rest.calm in
     let more = faults_more after rest.events in
     stopped fit
@@ -325,7 +368,7 @@ stopped_later {s} {ls} {pair} {f} {t} {start} {bytes} {h} {v} {new_bytes} memory
       after = after ++ rest.events;
       steps_before = steps_before;
       are_moving = refl;
-      steps_after = steps_more s ls.lane after rest.events mid lane new_blocks new rest.new_blocks rest.new steps_after rest.steps;
+      steps_after = steps_more s ls.lane after rest.events mid lane new_blocks last rest.new_blocks rest.new steps_after rest.steps;
       acts_done = rest.acts;
       quiet = rest.quiet;
     })
@@ -334,34 +377,34 @@ stopped_later {s} {ls} {pair} {f} {t} {start} {bytes} {h} {v} {new_bytes} memory
     (λ small other. let rose = causes small other in omega (arith, rose, rest_calm, more))
 
 -- the turns after the move were written in part
-pub stopped_moved : {s : Script} {ls : LaneScript} {pair : QueuePair} {memory : List (List ℕ)} {turn : ℕ} {f t : ℕ} {start : Lane} {bytes : Option (List ℕ)} {g : ℕ} {lane : Lane} {mid_bytes : Option (List ℕ)} {h u : ℕ} {moved_bytes : Option (List ℕ)} {v : ℕ} {new_bytes : Option (List ℕ)} (n : ℕ) (told to_told mid_told moved_told new_told : Option (List (List ℕ))) →
-    Fits s ls.lane start → s.head.migrate ≡ Some turn → Between s ls pair → HasTurned true s ls.lane told f start bytes mid_told g lane mid_bytes →
+pub stopped_moved : {s : Script} {ls : LaneScript} {last : Lane} {turn : ℕ} {f t : ℕ} {start : Lane} {bytes : Option (List ℕ)} {g : ℕ} {lane : Lane} {mid_bytes : Option (List ℕ)} {h u : ℕ} {moved_bytes : Option (List ℕ)} {v : ℕ} {new_bytes : Option (List ℕ)} (n : ℕ) (told to_told mid_told moved_told new_told : Option (List (List ℕ))) →
+    Fits s ls.lane start → s.head.migrate ≡ Some turn → Between s ls last → HasTurned true s ls.lane told f start bytes mid_told g lane mid_bytes →
     HasMoved true s ls.lane Done g t mid_bytes h u moved_bytes → g ≤ h → t ≤ u → AreCopied n mid_told to_told moved_told → IsSized mid_told n → IsSized moved_told n →
-    HasTurned false s ls.lane moved_told u lane moved_bytes new_told v (lane_state memory pair) new_bytes →
+    HasTurned false s ls.lane moved_told u lane moved_bytes new_told v last new_bytes →
     IfTold told to_told (HasStopped unframed s ls.lane start f t bytes h v new_bytes)
 stopped_moved n None to_told mid_told moved_told new_told fit asked between x m from_later to_later copied sized to_sized y = tt
 stopped_moved n (Some blocks) None mid_told moved_told new_told fit asked between x m from_later to_later copied sized to_sized y = tt
 stopped_moved n (Some blocks) (Some to) None moved_told new_told fit asked between x m from_later to_later copied sized to_sized y = absurd x.steps
 stopped_moved n (Some blocks) (Some to) (Some mid) None new_told fit asked between x m from_later to_later copied sized to_sized y = absurd copied
 stopped_moved n (Some blocks) (Some to) (Some mid) (Some same) None fit asked between x m from_later to_later copied sized to_sized y = absurd y.steps
-stopped_moved {s} {ls} {pair} {memory} {f} {t} {start} {bytes} {g} {lane} {mid_bytes} {h} {u} {moved_bytes} {v} {new_bytes} n (Some blocks) (Some to) (Some mid) (Some same) (Some new_blocks) fit asked between x m from_later to_later copied sized to_sized y =
+stopped_moved {s} {ls} {last} {f} {t} {start} {bytes} {g} {lane} {mid_bytes} {h} {u} {moved_bytes} {v} {new_bytes} n (Some blocks) (Some to) (Some mid) (Some same) (Some new_blocks) fit asked between x m from_later to_later copied sized to_sized y =
     let is : same ≡ mid = all_copied n mid same sized to_sized copied in
-    let steps = subst (λ (b : List (List ℕ)). LaneSteps s ls.lane b lane y.events new_blocks (lane_state memory pair)) is y.steps in
-    stopped_later memory lane Done blocks mid new_blocks fit asked between x.events x.steps y.events steps
+    let steps = subst (λ (b : List (List ℕ)). LaneSteps s ls.lane b lane y.events new_blocks last) is y.steps in
+    stopped_later last lane Done blocks mid new_blocks fit asked between x.events x.steps y.events steps
     (lines_cut_after x.events (moving_lines s ls.lane Done ++ y.events) bytes mid_bytes new_bytes x.text (lines_cut_after (moving_lines s ls.lane Done) y.events mid_bytes moved_bytes new_bytes m.text y.text))
     (λ small other. omega (arith, x.causes, x.later, y.causes, y.later, from_later, to_later, small, other))
 
-pub stopped_given_up : {s : Script} {ls : LaneScript} {pair : QueuePair} {memory : List (List ℕ)} {turn : ℕ} {f t : ℕ} {start : Lane} {bytes : Option (List ℕ)} {g : ℕ} {lane : Lane} {mid_bytes : Option (List ℕ)} {h u : ℕ} {moved_bytes : Option (List ℕ)} {v : ℕ} {new_bytes : Option (List ℕ)} (told to_told mid_told new_told : Option (List (List ℕ))) →
-    Fits s ls.lane start → s.head.migrate ≡ Some turn → Between s ls pair → HasTurned true s ls.lane told f start bytes mid_told g lane mid_bytes →
+pub stopped_given_up : {s : Script} {ls : LaneScript} {last : Lane} {turn : ℕ} {f t : ℕ} {start : Lane} {bytes : Option (List ℕ)} {g : ℕ} {lane : Lane} {mid_bytes : Option (List ℕ)} {h u : ℕ} {moved_bytes : Option (List ℕ)} {v : ℕ} {new_bytes : Option (List ℕ)} (told to_told mid_told new_told : Option (List (List ℕ))) →
+    Fits s ls.lane start → s.head.migrate ≡ Some turn → Between s ls last → HasTurned true s ls.lane told f start bytes mid_told g lane mid_bytes →
     HasMoved true s ls.lane GaveUp g t mid_bytes h u moved_bytes → g ≤ h → t ≤ u →
-    HasTurned false s ls.lane mid_told h lane moved_bytes new_told v (lane_state memory pair) new_bytes →
+    HasTurned false s ls.lane mid_told h lane moved_bytes new_told v last new_bytes →
     IfTold told to_told (HasStopped unframed s ls.lane start f t bytes v u new_bytes)
 stopped_given_up None to_told mid_told new_told fit asked between x m from_later to_later y = tt
 stopped_given_up (Some blocks) None mid_told new_told fit asked between x m from_later to_later y = tt
 stopped_given_up (Some blocks) (Some to) None new_told fit asked between x m from_later to_later y = absurd x.steps
 stopped_given_up (Some blocks) (Some to) (Some mid) None fit asked between x m from_later to_later y = absurd y.steps
-stopped_given_up {s} {ls} {pair} {memory} {f} {t} {start} {bytes} {g} {lane} {mid_bytes} {h} {u} {moved_bytes} {v} {new_bytes} (Some blocks) (Some to) (Some mid) (Some new_blocks) fit asked between x m from_later to_later y =
-    stopped_later memory lane GaveUp blocks mid new_blocks fit asked between x.events x.steps y.events y.steps
+stopped_given_up {s} {ls} {last} {f} {t} {start} {bytes} {g} {lane} {mid_bytes} {h} {u} {moved_bytes} {v} {new_bytes} (Some blocks) (Some to) (Some mid) (Some new_blocks) fit asked between x m from_later to_later y =
+    stopped_later last lane GaveUp blocks mid new_blocks fit asked between x.events x.steps y.events y.steps
     (lines_cut_after x.events (moving_lines s ls.lane GaveUp ++ y.events) bytes mid_bytes new_bytes x.text (lines_cut_after (moving_lines s ls.lane GaveUp) y.events mid_bytes moved_bytes new_bytes m.text y.text))
     (λ small other. let one = m.causes (omega (arith, y.later, small)) other in omega (arith, x.causes, x.later, y.causes, y.later, from_later, to_later, small, other, one))
 
@@ -416,13 +459,12 @@ last_stopped {s} {k} {start} {ending} {bytes} {mid} {done} {new_bytes} {blocks} 
     }
 
 -- stopped in the first two lines
-pub first_stopped : {s : Script} {ls : LaneScript} {pair : QueuePair} (bytes new_bytes : Option (List ℕ)) (memory : List (List ℕ)) (f t : ℕ) (told to : Option (List (List ℕ))) →
-    Fits s ls.lane (lane_state memory pair) → Between s ls pair → IsCut (text_of (line.Title ∷ line.Ready ∷ [])) bytes new_bytes → IfTold told to (HasStopped framed s ls.lane (lane_state memory pair) f t bytes f t new_bytes)
-first_stopped bytes new_bytes memory f t None to fit between cut = tt
-first_stopped bytes new_bytes memory f t (Some blocks) None fit between cut = tt
-first_stopped {s} {ls} {pair} bytes new_bytes memory f t (Some blocks) (Some other) fit between cut =
-    let start = lane_state memory pair in
-    let rest = goes_to_end s ls pair memory between blocks in
+pub first_stopped : {s : Script} {ls : LaneScript} (bytes new_bytes : Option (List ℕ)) (start : Lane) (f t : ℕ) (told to : Option (List (List ℕ))) →
+    Fits s ls.lane start → Between s ls start → IsCut (text_of (line.Title ∷ line.Ready ∷ [])) bytes new_bytes → IfTold told to (HasStopped framed s ls.lane start f t bytes f t new_bytes)
+first_stopped bytes new_bytes start f t None to fit between cut = tt
+first_stopped bytes new_bytes start f t (Some blocks) None fit between cut = tt
+first_stopped {s} {ls} bytes new_bytes start f t (Some blocks) (Some other) fit between cut =
+    let rest = goes_to_end s ls start between blocks in
     let rest_calm = rest.calm in
     let lines = planned s ls.lane s.head.migrate in
     let calm = planned_calm s ls.lane s.head.migrate in

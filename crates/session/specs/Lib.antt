@@ -5,5 +5,7 @@ pub mod Range
 pub mod Rest
 pub mod Run
 pub mod State
+pub mod Leads
+pub mod Takes
 pub mod Check
 pub mod Work

@@ -8,6 +8,11 @@ use Rattle.nvm_model.specs.declared.script.Script.{Script}
 use Rattle.nvm_model.specs.History.{faults_shown}
 use Rattle.nvm_model.specs.Text.{IsLine, text_of}
 use Rattle.nvm_model.specs.World.{Lane, IsQuiet, acts_of, set_of}
+use Rattle.nvm_model.specs.Ring.{lane_window}
+use Rattle.guest_ram.specs.Window.{WindowState}
+use Rattle.session.specs.declared.lane_script.LaneScript.{LaneScript}
+use Rattle.session.specs.declared.queue_pair.QueuePair.{QueuePair}
+use Rattle.session.specs.State.{Stands}
 use Rattle.session.specs.declared.ending.Ending.{Ending}
 use Rattle.session.specs.declared.ending.Ending.TheVariants.{Done, GaveUp}
 use Rattle.session.specs.Goes.{LaneSteps, ToldSteps}
@@ -21,6 +26,16 @@ pub record HasTurned (whole : Bool) (s : Script) (k : ℕ) (start_told : Option 
   pub steps : ToldSteps s k start_told start events told lane
   pub causes : RisesBy (faults_shown events) start_faults faults
   pub later : start_faults ≤ faults
+
+-- the same from the lane for which a window and a queue pair stood, to one for which they stand afterwards
+pub record TurnedTo (whole : Bool) (s : Script) (ls : LaneScript) (start_told : Option (List (List ℕ))) (start_faults : ℕ) (start : Lane) (start_bytes : Option (List ℕ)) (told : Option (List (List ℕ))) (faults : ℕ) (window : WindowState) (pair : QueuePair) (bytes : Option (List ℕ)) : Type 0 where
+  pub lane : Lane
+  pub stands : Stands ls s.head.burst window pair lane
+  pub turned : HasTurned whole s ls.lane start_told start_faults start start_bytes told faults lane bytes
+
+abbrev pub Turns : Bool → Script → LaneScript → Option (List (List ℕ)) → ℕ → WindowState → QueuePair → Option (List ℕ) → Option (List (List ℕ)) → ℕ → WindowState → QueuePair → Option (List ℕ) → Type 0
+Turns whole s ls told faults window pair bytes new_told new_faults new_window new_pair new_bytes =
+    (lane : Lane) → Stands ls s.head.burst window pair lane → TurnedTo whole s ls told faults lane bytes new_told new_faults new_window new_pair new_bytes
 
 -- the lines that end a move of so many blocks and pages
 abbrev pub ending_lines : Ending → ℕ → ℕ → List Line
@@ -57,11 +72,12 @@ abbrev pub body_of : (s : Script) (k : ℕ) (blocks : List (List ℕ)) (start : 
 body_of s k blocks start ending run = run.before ++ (run.moving ++ run.after)
 
 -- Where the guest was moved, the source holds what it held then, and the destination the end; else the source holds it.
-abbrev pub SidesHold : Option ℕ → Ending → List (List ℕ) → Lane → List (List ℕ) → Lane → Option (List (List ℕ)) → List (List ℕ) → Option (List (List ℕ)) → List (List ℕ) → Type 0
-SidesHold (Some turn) Done mid_blocks mid blocks lane from_told from_memory to_told to_memory =
-    (from_told ≡ Some mid_blocks) × (from_memory ≡ mid.pages) × (to_told ≡ Some blocks) × (to_memory ≡ lane.pages)
-SidesHold (Some turn) GaveUp mid_blocks mid blocks lane from_told from_memory to_told to_memory = (from_told ≡ Some blocks) × (from_memory ≡ lane.pages)
-SidesHold None ending mid_blocks mid blocks lane from_told from_memory to_told to_memory = (from_told ≡ Some blocks) × (from_memory ≡ lane.pages)
+-- A side's memory is the lane's whole window, byte for byte.
+abbrev pub SidesHold : (Lane → List (List ℕ)) → Option ℕ → Ending → List (List ℕ) → Lane → List (List ℕ) → Lane → Option (List (List ℕ)) → List (List ℕ) → Option (List (List ℕ)) → List (List ℕ) → Type 0
+SidesHold memory (Some turn) Done mid_blocks mid blocks lane from_told from_memory to_told to_memory =
+    (from_told ≡ Some mid_blocks) × (from_memory ≡ memory mid) × (to_told ≡ Some blocks) × (to_memory ≡ memory lane)
+SidesHold memory (Some turn) GaveUp mid_blocks mid blocks lane from_told from_memory to_told to_memory = (from_told ≡ Some blocks) × (from_memory ≡ memory lane)
+SidesHold memory None ending mid_blocks mid blocks lane from_told from_memory to_told to_memory = (from_told ≡ Some blocks) × (from_memory ≡ memory lane)
 
 -- two counts of faults that rose by n or more together, as far as they hadn't reached their types' ends
 abbrev pub RoseTogether : ℕ → ℕ → ℕ → ℕ → ℕ → Type 0
@@ -86,7 +102,7 @@ pub record HasRun (frame : List Line → List Line) (s : Script) (k : ℕ) (star
   pub run : WholeRun s k blocks start ending
   pub lines : AllByRecursion IsLine (frame (body_of s k blocks start ending run))
   pub text : bytes ≡ with_more (text_of (frame (body_of s k blocks start ending run))) start_bytes
-  pub holds : SidesHold s.head.migrate ending run.mid_blocks run.mid run.new_blocks run.new from_told from_memory to_told to_memory
+  pub holds : SidesHold (lane_window s.head k) s.head.migrate ending run.mid_blocks run.mid run.new_blocks run.new from_told from_memory to_told to_memory
   pub causes : RoseTogether (faults_shown (body_of s k blocks start ending run)) start_from start_to from_faults to_faults
 
 -- A run that stopped where the sink failed: a front of the lines of a whole run was written.

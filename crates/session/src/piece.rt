@@ -7,6 +7,7 @@ ghost use Rattle.nvm_model.specs.Piece.{MovesTo, ComparesTo, data_block, page_of
 ghost use Rattle.guest_ram.specs.Window.{data_pages};
 ghost use Rattle.sha2.specs.Hashers.{Holds256};
 ghost use Rattle.sha2.specs.Sha256.{sha256};
+ghost use Rattle.session.specs.Side.{IsSameButData};
 ghost use Rattle.session.specs.Work.{IsSized, IsPieceOf, put_told, EqualsAt, IsToldDone, faults_in};
 
 use guest_ram::Window;
@@ -152,7 +153,7 @@ fn read<M: Medium>(piece: &Piece, window: &mut Window, medium: &mut M) -> (Outco
         ≡ read_blocks blocks piece.now.pages piece.now.span.first piece.now.at (done_blocks piece.now.span.count result.0) (data_pages window.old)) }
     ensures digest { IfSome (M.blocks medium.old) (λ blocks. result.1 ≡ sha256 (bytes_of piece.now.span.first (done_blocks piece.now.span.count result.0) blocks)) }
     ensures outcome { MovesTo piece.now.span.count result.0 }
-    ensures window { (window.new.lane ≡ window.old.lane) × (length window.new.pages ≡ length window.old.pages) }
+    ensures window { IsSameButData window.old window.new }
     ensures same_blocks { M.blocks medium.new ≡ M.blocks medium.old }
     ensures same_size { M.size medium.new ≡ M.size medium.old }
     ensures causes { RisesBy (faults_in result.0) (M.faults medium.old) (M.faults medium.new) }
@@ -183,7 +184,7 @@ fn keep_block(piece: &Piece, window: &mut Window, i: u32, block: &[u8; 512])
     requires there { page_of piece.now.pages (piece.now.at + i) + 2 < length window.old.pages }
     requires window { length window.old.pages ≤ 258 }
     ensures memory { data_pages window.new ≡ with_bytes (data_pages window.old) (page_of piece.now.pages (piece.now.at + i)) (place_of (piece.now.at + i)) block.now }
-    ensures window { (window.new.lane ≡ window.old.lane) × (length window.new.pages ≡ length window.old.pages) }
+    ensures window { IsSameButData window.old window.new }
 {
     let j = piece.at + i;
     let page = piece.pages.list[(j / 8) as usize];
@@ -200,7 +201,7 @@ pub(crate) fn do_piece<M: Medium>(piece: &Piece, window: &mut Window, medium: &m
     requires sized { IsSized (M.blocks medium.old) (M.size medium.old) }
     ensures done { IsToldDone piece.now result.outcome result.digest (M.blocks medium.old) (data_pages window.old) (M.blocks medium.new) (data_pages window.new) }
     ensures sized { IsSized (M.blocks medium.new) (M.size medium.new) }
-    ensures window { (window.new.lane ≡ window.old.lane) × (length window.new.pages ≡ length window.old.pages) }
+    ensures window { IsSameButData window.old window.new }
     ensures same_size { M.size medium.new ≡ M.size medium.old }
     ensures causes { RisesBy (faults_in result.outcome) (M.faults medium.old) (M.faults medium.new) }
     ensures later { M.faults medium.old ≤ M.faults medium.new }

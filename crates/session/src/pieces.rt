@@ -5,9 +5,11 @@ ghost use Rattle.nvm_model.specs.declared.command.Command.{Command};
 ghost use Rattle.nvm_model.specs.declared.line.Line.TheVariants as line;
 ghost use Rattle.nvm_model.specs.Piece.{pieces_left, after_piece, join_status, outcome_status};
 ghost use Rattle.nvm_model.specs.ScriptText.{IsHead};
-ghost use Rattle.guest_ram.specs.Window.{data_pages};
+ghost use Rattle.nvm_model.specs.World.{Lane};
 ghost use Rattle.session.specs.Goes.{Goes};
-ghost use Rattle.session.specs.State.{lane_state, no_command, IsLaneOf, IsSound, IsFetched, IsWork, IsSameButRunning, work_left};
+ghost use Rattle.session.specs.Leads.{with_work};
+ghost use Rattle.session.specs.Side.{IsSameButData};
+ghost use Rattle.session.specs.State.{no_command, IsLaneOf, IsFetched, IsWork, IsSameButRunning};
 ghost use Rattle.session.specs.Work.{IsSized};
 
 use crate::piece::{Piece, PieceResult, do_piece};
@@ -32,18 +34,15 @@ pub(crate) fn do_pieces<M: Medium>(
     requires shelf { script.now.head.shelf ≡ script.now.head.blocks }
     requires lane { IsLaneOf script.now ls.now }
     requires window { (window.old.lane ≡ ls.now.lane) × (length window.old.pages ≡ ls.now.set.pages + 2) }
-    requires sound { IsSound ls.now script.now.head.burst pair.old }
     requires fetched { All (IsFetched script.now.head.blocks ls.now.set.pages) pair.old.running.items }
     requires size { (M.size medium.old ≡ script.now.head.blocks) × IsSized (M.blocks medium.old) (M.size medium.old) }
     requires room { vec_len events.old + length pair.old.running.items ≤ vec_capacity events.old }
 
-    ensures goes { Goes script.now ls.now.lane
-        (M.blocks medium.old) (M.faults medium.old) (lane_state (data_pages window.old) pair.old) events.old.items
-        (M.blocks medium.new) (M.faults medium.new) (lane_state (data_pages window.new) pair.new) events.new.items }
-    ensures window { (window.new.lane ≡ window.old.lane) × (length window.new.pages ≡ length window.old.pages) }
+    ensures goes { (lane : Lane) → Goes script.now ls.now.lane
+        (M.blocks medium.old) (M.faults medium.old) (with_work window.old pair.old lane) events.old.items
+        (M.blocks medium.new) (M.faults medium.new) (with_work window.new pair.new lane) events.new.items }
+    ensures window { IsSameButData window.old window.new }
     ensures pair { IsSameButRunning pair.old pair.new }
-    ensures sound { IsSound ls.now script.now.head.burst pair.new }
-    ensures work { work_left ls.now pair.new ≡ work_left ls.now pair.old }
     ensures finished { All (λ (c : Command). pieces_left script.now.head.shelf c ≡ 0) pair.new.running.items }
     ensures size { (M.size medium.new ≡ M.size medium.old) × IsSized (M.blocks medium.new) (M.size medium.new) }
     ensures count { (vec_len events.old ≤ vec_len events.new) × (vec_len events.new ≤ vec_len events.old + length pair.old.running.items) }
@@ -74,10 +73,10 @@ fn do_piece_at<M: Medium>(
     requires room { vec_len events.old < vec_capacity events.old }
     requires fetched { IsFetched script.now.head.blocks ls.now.set.pages (slice_index_or pair.old.running.items place no_command) }
 
-    ensures goes { Goes script.now ls.now.lane
-        (M.blocks medium.old) (M.faults medium.old) (lane_state (data_pages window.old) pair.old) events.old.items
-        (M.blocks medium.new) (M.faults medium.new) (lane_state (data_pages window.new) pair.new) events.new.items }
-    ensures window { (window.new.lane ≡ window.old.lane) × (length window.new.pages ≡ length window.old.pages) }
+    ensures goes { (lane : Lane) → Goes script.now ls.now.lane
+        (M.blocks medium.old) (M.faults medium.old) (with_work window.old pair.old lane) events.old.items
+        (M.blocks medium.new) (M.faults medium.new) (with_work window.new pair.new lane) events.new.items }
+    ensures window { IsSameButData window.old window.new }
     ensures pair { IsSameButRunning pair.old pair.new }
     ensures finished { All (λ (c : Command). pieces_left script.now.head.shelf c ≡ 0) (take (place + 1) pair.new.running.items) }
     ensures others { drop (place + 1) pair.new.running.items ≡ drop (place + 1) pair.old.running.items }
@@ -113,10 +112,10 @@ fn do_work<M: Medium>(
     requires has_work { (slice_index_or pair.old.running.items place no_command).work ≡ Some work }
     requires work { IsWork script.now.head.blocks ls.now.set.pages work }
 
-    ensures goes { Goes script.now ls.now.lane
-        (M.blocks medium.old) (M.faults medium.old) (lane_state (data_pages window.old) pair.old) events.old.items
-        (M.blocks medium.new) (M.faults medium.new) (lane_state (data_pages window.new) pair.new) events.new.items }
-    ensures window { (window.new.lane ≡ window.old.lane) × (length window.new.pages ≡ length window.old.pages) }
+    ensures goes { (lane : Lane) → Goes script.now ls.now.lane
+        (M.blocks medium.old) (M.faults medium.old) (with_work window.old pair.old lane) events.old.items
+        (M.blocks medium.new) (M.faults medium.new) (with_work window.new pair.new lane) events.new.items }
+    ensures window { IsSameButData window.old window.new }
     ensures pair { IsSameButRunning pair.old pair.new }
     ensures finished { All (λ (c : Command). pieces_left script.now.head.shelf c ≡ 0) (take (place + 1) pair.new.running.items) }
     ensures others { drop (place + 1) pair.new.running.items ≡ drop (place + 1) pair.old.running.items }

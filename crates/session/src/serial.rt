@@ -1,12 +1,13 @@
 // A whole run: turns until the lane is complete, with at most one move between two turns, between the first lines and
 // the last.
-ghost use Rattle.std.specs.Prelude.{◌≡◌, ◌+◌, ◌<◌, ◌≤◌, ◌∷◌, [], true, false, Some, None, OnErr, OnOk, IfOk, length, vec_capacity};
+ghost use Rattle.std.specs.Prelude.{◌≡◌, ◌+◌, ◌<◌, ◌≤◌, ◌∷◌, [], true, false, Some, None, OnErr, OnOk, IfOk, length, replicate, vec_capacity};
 ghost use Rattle.mig_base.specs.Count.{HasCause};
+ghost use Rattle.nvm_model.specs.Memory.{zero_page};
 ghost use Rattle.nvm_model.specs.ScriptText.{IsHead};
 ghost use Rattle.nvm_model.specs.World.{new_lane};
-ghost use Rattle.session.specs.Run.{HasTurned, HasRun, HasStopped, IfTold, framed, unframed};
-ghost use Rattle.session.specs.Side.{HasMemory, memory_of};
-ghost use Rattle.session.specs.State.{lane_state, work_left, IsLaneOf, IsSound, IsPairComplete};
+ghost use Rattle.session.specs.Run.{Turns, HasRun, HasStopped, IfTold, framed, unframed};
+ghost use Rattle.session.specs.Side.{HasMemory, window_of};
+ghost use Rattle.session.specs.State.{CanStand, Stands, IsLaneOf, IsNewPair, IsPairComplete, pair_work};
 ghost use Rattle.session.specs.Work.{IsSized};
 
 use crate::cutover::migrate;
@@ -39,8 +40,8 @@ pub fn run<K: Sink, M: Medium>(
     requires head { IsHead script.now.head }
     requires shelf { script.now.head.shelf ≡ script.now.head.blocks }
     requires lane { IsLaneOf script.now ls.now }
-    requires sound { IsSound ls.now script.now.head.burst pair.old }
-    requires new { lane_state [] pair.old ≡ new_lane 0 }
+    requires new { IsNewPair ls.now script.now.head.burst pair.old }
+    requires zeroed { (window_of from_ram.old).pages ≡ replicate (ls.now.set.pages + 2) zero_page }
     requires from_memory { HasMemory ls.now from_ram.old }
     requires to_memory { HasMemory ls.now to_ram.old }
     requires from_size { (M.size from.old ≡ script.now.head.blocks) × IsSized (M.blocks from.old) (M.size from.old) }
@@ -48,10 +49,10 @@ pub fn run<K: Sink, M: Medium>(
     requires room { 512 ≤ vec_capacity events.old }
 
     ensures run { IfOk result (λ ending. IfTold (M.blocks from.old) (M.blocks to.old) (HasRun framed script.now ls.now.lane
-        (lane_state (memory_of from_ram.old) pair.old) ending (M.faults from.old) (M.faults to.old) (K.bytes output.old)
-        (M.blocks from.new) (memory_of from_ram.new) (M.blocks to.new) (memory_of to_ram.new) (M.faults from.new) (M.faults to.new) (K.bytes output.new))) }
+        (new_lane ls.now.set.pages) ending (M.faults from.old) (M.faults to.old) (K.bytes output.old)
+        (M.blocks from.new) (window_of from_ram.new).pages (M.blocks to.new) (window_of to_ram.new).pages (M.faults from.new) (M.faults to.new) (K.bytes output.new))) }
     ensures stopped { OnErr result (IfTold (M.blocks from.old) (M.blocks to.old) (HasStopped framed script.now ls.now.lane
-        (lane_state (memory_of from_ram.old) pair.old) (M.faults from.old) (M.faults to.old) (K.bytes output.old)
+        (new_lane ls.now.set.pages) (M.faults from.old) (M.faults to.old) (K.bytes output.old)
         (M.faults from.new) (M.faults to.new) (K.bytes output.new))) }
     ensures from_memory { HasMemory ls.now from_ram.new }
     ensures to_memory { HasMemory ls.now to_ram.new }
@@ -90,8 +91,8 @@ fn run_body<K: Sink, M: Medium>(
     requires head { IsHead script.now.head }
     requires shelf { script.now.head.shelf ≡ script.now.head.blocks }
     requires lane { IsLaneOf script.now ls.now }
-    requires sound { IsSound ls.now script.now.head.burst pair.old }
-    requires new { lane_state [] pair.old ≡ new_lane 0 }
+    requires start { Stands ls.now script.now.head.burst (window_of from_ram.old) pair.old (new_lane ls.now.set.pages) }
+    requires none { pair.old.running.items ≡ [] }
     requires from_memory { HasMemory ls.now from_ram.old }
     requires to_memory { HasMemory ls.now to_ram.old }
     requires from_size { (M.size from.old ≡ script.now.head.blocks) × IsSized (M.blocks from.old) (M.size from.old) }
@@ -99,10 +100,10 @@ fn run_body<K: Sink, M: Medium>(
     requires room { 512 ≤ vec_capacity events.old }
 
     ensures run { IfOk result (λ ending. IfTold (M.blocks from.old) (M.blocks to.old) (HasRun unframed script.now ls.now.lane
-        (lane_state (memory_of from_ram.old) pair.old) ending (M.faults from.old) (M.faults to.old) (K.bytes output.old)
-        (M.blocks from.new) (memory_of from_ram.new) (M.blocks to.new) (memory_of to_ram.new) (M.faults from.new) (M.faults to.new) (K.bytes output.new))) }
+        (new_lane ls.now.set.pages) ending (M.faults from.old) (M.faults to.old) (K.bytes output.old)
+        (M.blocks from.new) (window_of from_ram.new).pages (M.blocks to.new) (window_of to_ram.new).pages (M.faults from.new) (M.faults to.new) (K.bytes output.new))) }
     ensures stopped { OnErr result (IfTold (M.blocks from.old) (M.blocks to.old) (HasStopped unframed script.now ls.now.lane
-        (lane_state (memory_of from_ram.old) pair.old) (M.faults from.old) (M.faults to.old) (K.bytes output.old)
+        (new_lane ls.now.set.pages) (M.faults from.old) (M.faults to.old) (K.bytes output.old)
         (M.faults from.new) (M.faults to.new) (K.bytes output.new))) }
     ensures from_memory { HasMemory ls.now from_ram.new }
     ensures to_memory { HasMemory ls.now to_ram.new }
@@ -138,8 +139,8 @@ fn run_moving<K: Sink, M: Medium>(
     requires head { IsHead script.now.head }
     requires shelf { script.now.head.shelf ≡ script.now.head.blocks }
     requires lane { IsLaneOf script.now ls.now }
-    requires sound { IsSound ls.now script.now.head.burst pair.old }
-    requires new { lane_state [] pair.old ≡ new_lane 0 }
+    requires start { Stands ls.now script.now.head.burst (window_of from_ram.old) pair.old (new_lane ls.now.set.pages) }
+    requires none { pair.old.running.items ≡ [] }
     requires from_memory { HasMemory ls.now from_ram.old }
     requires to_memory { HasMemory ls.now to_ram.old }
     requires from_size { (M.size from.old ≡ script.now.head.blocks) × IsSized (M.blocks from.old) (M.size from.old) }
@@ -147,10 +148,10 @@ fn run_moving<K: Sink, M: Medium>(
     requires room { 512 ≤ vec_capacity events.old }
 
     ensures run { IfOk result (λ ending. IfTold (M.blocks from.old) (M.blocks to.old) (HasRun unframed script.now ls.now.lane
-        (lane_state (memory_of from_ram.old) pair.old) ending (M.faults from.old) (M.faults to.old) (K.bytes output.old)
-        (M.blocks from.new) (memory_of from_ram.new) (M.blocks to.new) (memory_of to_ram.new) (M.faults from.new) (M.faults to.new) (K.bytes output.new))) }
+        (new_lane ls.now.set.pages) ending (M.faults from.old) (M.faults to.old) (K.bytes output.old)
+        (M.blocks from.new) (window_of from_ram.new).pages (M.blocks to.new) (window_of to_ram.new).pages (M.faults from.new) (M.faults to.new) (K.bytes output.new))) }
     ensures stopped { OnErr result (IfTold (M.blocks from.old) (M.blocks to.old) (HasStopped unframed script.now ls.now.lane
-        (lane_state (memory_of from_ram.old) pair.old) (M.faults from.old) (M.faults to.old) (K.bytes output.old)
+        (new_lane ls.now.set.pages) (M.faults from.old) (M.faults to.old) (K.bytes output.old)
         (M.faults from.new) (M.faults to.new) (K.bytes output.new))) }
     ensures from_memory { HasMemory ls.now from_ram.new }
     ensures to_memory { HasMemory ls.now to_ram.new }
@@ -191,19 +192,19 @@ fn run_turns_before<K: Sink, M: Medium>(
     requires head { IsHead script.now.head }
     requires shelf { script.now.head.shelf ≡ script.now.head.blocks }
     requires lane { IsLaneOf script.now ls.now }
-    requires sound { IsSound ls.now script.now.head.burst pair.old }
+    requires stands { CanStand ls.now script.now.head.burst (window_of ram.old) pair.old }
     requires none { pair.old.running.items ≡ [] }
     requires memory { HasMemory ls.now ram.old }
     requires size { (M.size medium.old ≡ script.now.head.blocks) × IsSized (M.blocks medium.old) (M.size medium.old) }
     requires room { 512 ≤ vec_capacity events.old }
 
-    ensures turned { OnOk result (HasTurned true script.now ls.now.lane
-        (M.blocks medium.old) (M.faults medium.old) (lane_state (memory_of ram.old) pair.old) (K.bytes output.old)
-        (M.blocks medium.new) (M.faults medium.new) (lane_state (memory_of ram.new) pair.new) (K.bytes output.new)) }
-    ensures stopped { OnErr result (HasTurned false script.now ls.now.lane
-        (M.blocks medium.old) (M.faults medium.old) (lane_state (memory_of ram.old) pair.old) (K.bytes output.old)
-        (M.blocks medium.new) (M.faults medium.new) (lane_state (memory_of ram.new) pair.new) (K.bytes output.new)) }
-    ensures sound { IsSound ls.now script.now.head.burst pair.new }
+    ensures turned { OnOk result (Turns true script.now ls.now
+        (M.blocks medium.old) (M.faults medium.old) (window_of ram.old) pair.old (K.bytes output.old)
+        (M.blocks medium.new) (M.faults medium.new) (window_of ram.new) pair.new (K.bytes output.new)) }
+    ensures stopped { OnErr result (Turns false script.now ls.now
+        (M.blocks medium.old) (M.faults medium.old) (window_of ram.old) pair.old (K.bytes output.old)
+        (M.blocks medium.new) (M.faults medium.new) (window_of ram.new) pair.new (K.bytes output.new)) }
+    ensures stands { CanStand ls.now script.now.head.burst (window_of ram.new) pair.new }
     ensures none { pair.new.running.items ≡ [] }
     ensures memory { HasMemory ls.now ram.new }
     ensures size { (M.size medium.new ≡ M.size medium.old) × IsSized (M.blocks medium.new) (M.size medium.new) }
@@ -236,19 +237,19 @@ fn run_turns<K: Sink, M: Medium>(
     requires head { IsHead script.now.head }
     requires shelf { script.now.head.shelf ≡ script.now.head.blocks }
     requires lane { IsLaneOf script.now ls.now }
-    requires sound { IsSound ls.now script.now.head.burst pair.old }
+    requires stands { CanStand ls.now script.now.head.burst (window_of ram.old) pair.old }
     requires none { pair.old.running.items ≡ [] }
     requires memory { HasMemory ls.now ram.old }
     requires size { (M.size medium.old ≡ script.now.head.blocks) × IsSized (M.blocks medium.old) (M.size medium.old) }
     requires room { 512 ≤ vec_capacity events.old }
 
-    ensures turned { OnOk result (HasTurned true script.now ls.now.lane
-        (M.blocks medium.old) (M.faults medium.old) (lane_state (memory_of ram.old) pair.old) (K.bytes output.old)
-        (M.blocks medium.new) (M.faults medium.new) (lane_state (memory_of ram.new) pair.new) (K.bytes output.new)) }
-    ensures stopped { OnErr result (HasTurned false script.now ls.now.lane
-        (M.blocks medium.old) (M.faults medium.old) (lane_state (memory_of ram.old) pair.old) (K.bytes output.old)
-        (M.blocks medium.new) (M.faults medium.new) (lane_state (memory_of ram.new) pair.new) (K.bytes output.new)) }
-    ensures sound { IsSound ls.now script.now.head.burst pair.new }
+    ensures turned { OnOk result (Turns true script.now ls.now
+        (M.blocks medium.old) (M.faults medium.old) (window_of ram.old) pair.old (K.bytes output.old)
+        (M.blocks medium.new) (M.faults medium.new) (window_of ram.new) pair.new (K.bytes output.new)) }
+    ensures stopped { OnErr result (Turns false script.now ls.now
+        (M.blocks medium.old) (M.faults medium.old) (window_of ram.old) pair.old (K.bytes output.old)
+        (M.blocks medium.new) (M.faults medium.new) (window_of ram.new) pair.new (K.bytes output.new)) }
+    ensures stands { CanStand ls.now script.now.head.burst (window_of ram.new) pair.new }
     ensures none { pair.new.running.items ≡ [] }
     ensures memory { HasMemory ls.now ram.new }
     ensures size { (M.size medium.new ≡ M.size medium.old) × IsSized (M.blocks medium.new) (M.size medium.new) }
@@ -279,23 +280,23 @@ fn run_turn<K: Sink, M: Medium>(
     requires head { IsHead script.now.head }
     requires shelf { script.now.head.shelf ≡ script.now.head.blocks }
     requires lane { IsLaneOf script.now ls.now }
-    requires sound { IsSound ls.now script.now.head.burst pair.old }
+    requires stands { CanStand ls.now script.now.head.burst (window_of ram.old) pair.old }
     requires none { pair.old.running.items ≡ [] }
     requires memory { HasMemory ls.now ram.old }
     requires size { (M.size medium.old ≡ script.now.head.blocks) × IsSized (M.blocks medium.old) (M.size medium.old) }
     requires room { 512 ≤ vec_capacity events.old }
 
-    ensures turned { OnOk result (HasTurned true script.now ls.now.lane
-        (M.blocks medium.old) (M.faults medium.old) (lane_state (memory_of ram.old) pair.old) (K.bytes output.old)
-        (M.blocks medium.new) (M.faults medium.new) (lane_state (memory_of ram.new) pair.new) (K.bytes output.new)) }
-    ensures stopped { OnErr result (HasTurned false script.now ls.now.lane
-        (M.blocks medium.old) (M.faults medium.old) (lane_state (memory_of ram.old) pair.old) (K.bytes output.old)
-        (M.blocks medium.new) (M.faults medium.new) (lane_state (memory_of ram.new) pair.new) (K.bytes output.new)) }
-    ensures sound { IsSound ls.now script.now.head.burst pair.new }
+    ensures turned { OnOk result (Turns true script.now ls.now
+        (M.blocks medium.old) (M.faults medium.old) (window_of ram.old) pair.old (K.bytes output.old)
+        (M.blocks medium.new) (M.faults medium.new) (window_of ram.new) pair.new (K.bytes output.new)) }
+    ensures stopped { OnErr result (Turns false script.now ls.now
+        (M.blocks medium.old) (M.faults medium.old) (window_of ram.old) pair.old (K.bytes output.old)
+        (M.blocks medium.new) (M.faults medium.new) (window_of ram.new) pair.new (K.bytes output.new)) }
+    ensures stands { CanStand ls.now script.now.head.burst (window_of ram.new) pair.new }
     ensures none { pair.new.running.items ≡ [] }
     ensures memory { HasMemory ls.now ram.new }
     ensures size { (M.size medium.new ≡ M.size medium.old) × IsSized (M.blocks medium.new) (M.size medium.new) }
-    ensures onward { (IsPairComplete ls.now pair.old → ⊥) → work_left ls.now pair.new < work_left ls.now pair.old }
+    ensures onward { (IsPairComplete ls.now pair.old → ⊥) → pair_work ls.now pair.new < pair_work ls.now pair.old }
     ensures capacity { vec_capacity events.new ≡ vec_capacity events.old }
     ensures cause { HasCause (K.faults output.old) (K.faults output.new) result }
 {

@@ -1,9 +1,9 @@
 // One turn: a list of events, which are written as lines after it.
 ghost use Rattle.std.specs.Prelude.{◌≡◌, ◌+◌, ◌*◌, ◌<◌, ◌≤◌, ◌↔◌, [], IsTrue, length, vec_capacity};
 ghost use Rattle.nvm_model.specs.ScriptText.{IsHead};
-ghost use Rattle.guest_ram.specs.Window.{data_pages};
-ghost use Rattle.session.specs.Goes.{Goes};
-ghost use Rattle.session.specs.State.{lane_state, IsLaneOf, IsSound, IsPairComplete, work_left};
+ghost use Rattle.nvm_model.specs.World.{Lane};
+ghost use Rattle.session.specs.Leads.{TurnsTo};
+ghost use Rattle.session.specs.State.{CanStand, Stands, IsLaneOf, IsPairComplete, pair_work};
 ghost use Rattle.session.specs.Work.{IsSized};
 
 use crate::controller::{fetch_all, post_all};
@@ -22,7 +22,7 @@ pub(crate) fn is_complete(ls: &LaneScript, pair: &QueuePair) -> bool
     ensures complete { IsTrue result → IsPairComplete ls.now pair.now }
     ensures not { IsPairComplete ls.now pair.now → IsTrue result }
 {
-    pair.acts_done as usize == ls.acts.len() && pair.is_quiet()
+    pair.acts_done as usize == ls.acts.len() && pair.waiting == 0
 }
 
 /// Does one turn: the guest reaps and acts, the controller fetches, the pieces are done, and the completions are posted.
@@ -37,20 +37,18 @@ pub(crate) fn turn<M: Medium>(
     requires head { IsHead script.now.head }
     requires shelf { script.now.head.shelf ≡ script.now.head.blocks }
     requires lane { IsLaneOf script.now ls.now }
-    requires window { (window.old.lane ≡ ls.now.lane) × (length window.old.pages ≡ ls.now.set.pages + 2) }
-    requires sound { IsSound ls.now script.now.head.burst pair.old }
+    requires stands { CanStand ls.now script.now.head.burst window.old pair.old }
     requires none { pair.old.running.items ≡ [] }
     requires size { (M.size medium.old ≡ script.now.head.blocks) × IsSized (M.blocks medium.old) (M.size medium.old) }
     requires room { 512 ≤ vec_capacity events.old }
 
-    ensures goes { Goes script.now ls.now.lane
-        (M.blocks medium.old) (M.faults medium.old) (lane_state (data_pages window.old) pair.old) []
-        (M.blocks medium.new) (M.faults medium.new) (lane_state (data_pages window.new) pair.new) events.new.items }
+    ensures turns { (lane : Lane) → Stands ls.now script.now.head.burst window.old pair.old lane
+        → TurnsTo script.now ls.now lane (M.blocks medium.old) (M.faults medium.old) (M.blocks medium.new) (M.faults medium.new) window.new pair.new events.new.items }
+    ensures stands { CanStand ls.now script.now.head.burst window.new pair.new }
     ensures window { (window.new.lane ≡ window.old.lane) × (length window.new.pages ≡ length window.old.pages) }
-    ensures sound { IsSound ls.now script.now.head.burst pair.new }
     ensures none { pair.new.running.items ≡ [] }
     ensures size { (M.size medium.new ≡ M.size medium.old) × IsSized (M.blocks medium.new) (M.size medium.new) }
-    ensures onward { (IsPairComplete ls.now pair.old → ⊥) → work_left ls.now pair.new < work_left ls.now pair.old }
+    ensures onward { (IsPairComplete ls.now pair.old → ⊥) → pair_work ls.now pair.new < pair_work ls.now pair.old }
     ensures capacity { vec_capacity events.new ≡ vec_capacity events.old }
 {
     events.clear();

@@ -29,8 +29,7 @@ loop-i-preserved g c =
           (λ blocks. bytes_of piece.span.first i blocks ++ block ≡ bytes_of piece.span.first (i + 1) blocks)
           (λ blocks b sized. ap (λ (x : List ℕ). bytes_of piece.span.first i blocks ++ x) b ∙ sym (bytes_of_more piece.span.first i blocks (omega arith)))
           got c.requires.sized);
-      window_lane = search rules;
-      window_pages = search rules;
+      window = search rules;
       same_blocks = search rules;
       same_size = search rules;
       later = search rules;

@@ -1,8 +1,9 @@
-use Rattle.std.proofs.Common.{◌≡◌, ◌≤◌, length}
+use Rattle.std.proofs.Common.{◌≡◌, ◌≤◌}
 use Rattle.std.specs.Option.{IfSome}
 use Rattle.sha2.specs.Hashers.{Holds256}
 use Rattle.nvm_model.specs.Piece.{read_blocks, bytes_of}
 use Rattle.guest_ram.specs.Window.{data_pages}
+use Rattle.session.specs.Side.{IsSameButData}
 use Rattle.session.proofs.piece.read.Given as goal
 
 abbrev pub invariant-loop-i : goal.invariant-loop-i
@@ -11,8 +12,7 @@ invariant-loop-i g l =
     record {
       memory : IfSome (medium.blocks l.fn.medium) (λ blocks. data_pages l.window ≡ read_blocks blocks l.piece.pages l.piece.span.first l.piece.at l.i (data_pages l.fn.window));
       digest : IfSome (medium.blocks l.fn.medium) (λ blocks. Holds256 l.hasher (bytes_of l.piece.span.first l.i blocks));
-      window_lane : l.window.lane ≡ l.fn.window.lane;
-      window_pages : length l.window.pages ≡ length l.fn.window.pages;
+      window : IsSameButData l.fn.window l.window;
       same_blocks : medium.blocks l.medium ≡ medium.blocks l.fn.medium;
       same_size : medium.size l.medium ≡ medium.size l.fn.medium;
       later : medium.faults l.fn.medium ≤ medium.faults l.medium;

@@ -22,9 +22,8 @@ loop-place-preserved g c =
     let place = c.loop-place.place in
     let running = c.loop-place.pair.running.items in
     record {
-      goes = goes_more c.loop-place.invariant.goes c.do_piece_at.ensures.goes;
-      window_lane = search rules;
-      window_pages = search rules;
+      goes = λ lane. goes_more (c.loop-place.invariant.goes lane) (c.do_piece_at.ensures.goes lane);
+      window = search rules;
       pair = search rules;
       finished = c.do_piece_at.ensures.finished;
       fetched = All-same fits _ _ (c.do_piece_at.ensures.others ∙ sym (drop-drop 1 place running)) (All-drop fits 1 (drop place running) c.loop-place.invariant.fetched);

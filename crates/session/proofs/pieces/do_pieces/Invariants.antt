@@ -1,9 +1,11 @@
-use Rattle.std.proofs.Common.{◌≡◌, ◌+◌, ◌≤◌, All, length, take, drop, vec_len, vec_capacity}
+use Rattle.std.proofs.Common.{◌≡◌, ◌+◌, ◌≤◌, All, take, drop, vec_len, vec_capacity}
 use Rattle.nvm_model.specs.declared.command.Command.{Command}
 use Rattle.nvm_model.specs.Piece.{pieces_left}
-use Rattle.guest_ram.specs.Window.{data_pages}
+use Rattle.nvm_model.specs.World.{Lane}
 use Rattle.session.specs.Goes.{Goes}
-use Rattle.session.specs.State.{lane_state, IsFetched, IsSameButRunning}
+use Rattle.session.specs.Leads.{with_work}
+use Rattle.session.specs.Side.{IsSameButData}
+use Rattle.session.specs.State.{IsFetched, IsSameButRunning}
 use Rattle.session.specs.Work.{IsSized}
 use Rattle.session.proofs.pieces.do_pieces.Given as goal
 
@@ -11,10 +13,9 @@ abbrev pub invariant-loop-place : goal.invariant-loop-place
 invariant-loop-place g l =
     let medium = g.M.Medium in
     record {
-      goes : Goes l.script l.ls.lane (medium.blocks l.fn.medium) (medium.faults l.fn.medium) (lane_state (data_pages l.fn.window) l.fn.pair) l.fn.events.items
-          (medium.blocks l.medium) (medium.faults l.medium) (lane_state (data_pages l.window) l.pair) l.events.items;
-      window_lane : l.window.lane ≡ l.fn.window.lane;
-      window_pages : length l.window.pages ≡ length l.fn.window.pages;
+      goes : (lane : Lane) → Goes l.script l.ls.lane (medium.blocks l.fn.medium) (medium.faults l.fn.medium) (with_work l.fn.window l.fn.pair lane) l.fn.events.items
+          (medium.blocks l.medium) (medium.faults l.medium) (with_work l.window l.pair lane) l.events.items;
+      window : IsSameButData l.fn.window l.window;
       pair : IsSameButRunning l.fn.pair l.pair;
       finished : All (λ (c : Command). pieces_left l.script.head.shelf c ≡ 0) (take l.place l.pair.running.items);
       fetched : All (IsFetched l.script.head.blocks l.ls.set.pages) (drop l.place l.pair.running.items);

@@ -7,17 +7,17 @@ use Rattle.nvm_model.specs.declared.line.Line.TheVariants as line
 use Rattle.nvm_model.specs.Piece.{pieces_left}
 use Rattle.guest_ram.specs.Window.{data_pages}
 use Rattle.session.specs.Goes.{Goes}
-use Rattle.session.specs.State.{lane_state}
+use Rattle.session.specs.Leads.{with_work}
 use Rattle.session.proofs.WorkLemmas.{piece_goes, finished_after, finished_up_to}
 use Rattle.session.proofs.pieces.do_work.Goals as goal
 
 pub returns-clause-goes : goal.returns-clause-goes
-returns-clause-goes g c =
+returns-clause-goes g c = λ base_lane.
     let s = c.args.script.now in
     let work = c.args.work in
     let command = c.command_at-command.result in
     let done = c.do_piece-done.result in
-    let lane = lane_state (data_pages c.args.window.now) c.args.pair.now in
+    let lane = with_work c.args.window.now c.args.pair.now base_lane in
     let base = piece_goes s c.args.ls.now.lane c.args.place command work done.outcome done.digest
     (g.M.Medium.blocks c.args.medium.now) (g.M.Medium.faults c.args.medium.now) lane c.args.events.now.items
     (g.M.Medium.blocks c.do_piece-done.new.medium) (g.M.Medium.faults c.do_piece-done.new.medium) (data_pages c.do_piece-done.new.window)

@@ -1,15 +1,18 @@
-use Rattle.std.proofs.Common.{ap}
-use Rattle.session.specs.Side.{memory_of}
-use Rattle.session.proofs.RunLemmas.{fits, if_told, framed_ran, framed_stopped, last_stopped, first_stopped}
+use Rattle.nvm_model.specs.World.{new_lane}
+use Rattle.session.proofs.RunLemmas.{between, fits, if_told, framed_ran, framed_stopped, last_stopped, first_stopped, starts}
 use Rattle.session.proofs.serial.run.Goals as goal
+
+pub run_body-requires-clause-start : goal.run_body-requires-clause-start
+run_body-requires-clause-start g c = starts c.args.from_ram.now c.requires.lane c.requires.from_memory c.requires.zeroed c.requires.new
 
 pub returns-in-Err-clause-stopped : goal.returns-in-Err-clause-stopped
 returns-in-Err-clause-stopped g c =
     let medium = g.M.Medium in
     let sink = g.K.Sink in
-    first_stopped (sink.bytes c.args.output.now) (sink.bytes c.write_lines.new.output) (memory_of c.args.from_ram.now) (medium.faults c.args.from.now) (medium.faults c.args.to.now) (medium.blocks c.args.from.now) (medium.blocks c.args.to.now)
-    (fits c.args.script.now c.args.ls.now (memory_of c.args.from_ram.now) c.args.pair.now c.requires.head c.requires.lane c.requires.new)
-    (record { head = c.requires.head; shelf = c.requires.shelf; lane = c.requires.lane; sound = c.requires.sound; none = ap (λ lane. lane.running) c.requires.new }) c.in-Err.ensures.cut
+    let s = c.args.script.now in
+    let ls = c.args.ls.now in
+    first_stopped (sink.bytes c.args.output.now) (sink.bytes c.write_lines.new.output) (new_lane ls.set.pages) (medium.faults c.args.from.now) (medium.faults c.args.to.now) (medium.blocks c.args.from.now) (medium.blocks c.args.to.now)
+    (fits s ls c.requires.head c.requires.lane) (between c.requires.shelf c.requires.lane (starts c.args.from_ram.now c.requires.lane c.requires.from_memory c.requires.zeroed c.requires.new) c.requires.new.running) c.in-Err.ensures.cut
 
 pub returns-in-Err-run_body-clause-stopped : goal.returns-in-Err-run_body-clause-stopped
 returns-in-Err-run_body-clause-stopped g c =

@@ -1,17 +1,23 @@
-use Rattle.session.specs.Side.{memory_of}
-use Rattle.session.proofs.RunLemmas.{is_end, fits, stayed, stopped_before}
+use Rattle.session.specs.Side.{window_of}
+use Rattle.nvm_model.specs.World.{new_lane}
+use Rattle.session.proofs.RunLemmas.{between, is_end, fits, stayed, stopped_before}
+use Rattle.session.proofs.StandsLemmas.{whole_window}
 use Rattle.session.proofs.serial.run_body.Goals as goal
 
 pub returns-in-Ok-clause-run : goal.returns-in-Ok-clause-run
 returns-in-Ok-clause-run g c =
     let medium = g.M.Medium in
-    stayed (medium.faults c.args.to.now) (medium.blocks c.args.to.now) (memory_of c.args.to_ram.now) (medium.blocks c.args.from.now) (medium.blocks c.args.to.now) (medium.blocks c.run_turns.new.medium)
-    (fits c.args.script.now c.args.ls.now (memory_of c.args.from_ram.now) c.args.pair.now c.requires.head c.requires.lane c.requires.new) c.in-None.is c.in-Ok.ensures.turned (is_end c.args.script.now c.args.ls.now c.run_turns.new.pair (memory_of c.run_turns.new.ram) c.requires.lane c.in-Ok.ensures.complete)
+    let s = c.args.script.now in
+    let ls = c.args.ls.now in
+    let turned = c.in-Ok.ensures.turned (new_lane ls.set.pages) c.requires.start in
+    stayed (medium.faults c.args.to.now) (medium.blocks c.args.to.now) (window_of c.args.to_ram.now).pages (medium.blocks c.args.from.now) (medium.blocks c.args.to.now) (medium.blocks c.run_turns.new.medium)
+    (fits s ls c.requires.head c.requires.lane) c.in-None.is turned.turned (is_end c.requires.lane turned.stands c.in-Ok.ensures.complete) (whole_window s c.requires.lane turned.stands)
 
 pub returns-in-Err-clause-stopped : goal.returns-in-Err-clause-stopped
 returns-in-Err-clause-stopped g c =
     let medium = g.M.Medium in
+    let s = c.args.script.now in
+    let ls = c.args.ls.now in
+    let turned = c.in-Err.ensures.stopped (new_lane ls.set.pages) c.requires.start in
     stopped_before (medium.faults c.args.to.now) (medium.blocks c.args.from.now) (medium.blocks c.args.to.now) (medium.blocks c.run_turns.new.medium)
-    (fits c.args.script.now c.args.ls.now (memory_of c.args.from_ram.now) c.args.pair.now c.requires.head c.requires.lane c.requires.new)
-    (record { head = c.requires.head; shelf = c.requires.shelf; lane = c.requires.lane; sound = c.run_turns.ensures.sound; none = c.run_turns.ensures.none })
-    c.in-Err.ensures.stopped
+    (fits s ls c.requires.head c.requires.lane) (between c.requires.shelf c.requires.lane turned.stands c.run_turns.ensures.none) turned.turned

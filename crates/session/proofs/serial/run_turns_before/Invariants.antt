@@ -1,7 +1,7 @@
 use Rattle.std.proofs.Common.{◌≡◌, ◌≤◌, [], true, vec_capacity}
-use Rattle.session.specs.Run.{HasTurned}
-use Rattle.session.specs.Side.{HasMemory, memory_of}
-use Rattle.session.specs.State.{lane_state, IsSound}
+use Rattle.session.specs.Run.{Turns}
+use Rattle.session.specs.Side.{HasMemory, window_of}
+use Rattle.session.specs.State.{CanStand}
 use Rattle.session.specs.Work.{IsSized}
 use Rattle.session.proofs.serial.run_turns_before.Given as goal
 
@@ -10,9 +10,9 @@ invariant-loop-done g l =
     let medium = g.M.Medium in
     let sink = g.K.Sink in
     record {
-      turned : HasTurned true l.script l.ls.lane (medium.blocks l.fn.medium) (medium.faults l.fn.medium) (lane_state (memory_of l.fn.ram) l.fn.pair) (sink.bytes l.fn.output)
-          (medium.blocks l.medium) (medium.faults l.medium) (lane_state (memory_of l.ram) l.pair) (sink.bytes l.output);
-      sound : IsSound l.ls l.script.head.burst l.pair;
+      turned : Turns true l.script l.ls (medium.blocks l.fn.medium) (medium.faults l.fn.medium) (window_of l.fn.ram) l.fn.pair (sink.bytes l.fn.output)
+          (medium.blocks l.medium) (medium.faults l.medium) (window_of l.ram) l.pair (sink.bytes l.output);
+      stands : CanStand l.ls l.script.head.burst (window_of l.ram) l.pair;
       none : l.pair.running.items ≡ [];
       memory : HasMemory l.ls l.ram;
       same_size : medium.size l.medium ≡ medium.size l.fn.medium;

@@ -1,52 +1,83 @@
-use Rattle.std.proofs.Common.{◌≡◌, ◌<◌, ◌≤◌, List, ⊎_elim, length, vec_len, subst, ap, ◌∙◌, arith}
+use Rattle.std.proofs.Common.{◌≡◌, ℕ, ◌+◌, ◌-◌, ◌*◌, ◌<◌, ◌≤◌, List, ⊎_elim, length, vec_len, subst, sym, ap, ◌∙◌}
 use Rattle.std.proofs.lemmas.Bool.{cases_lt}
 use Rattle.nvm_model.specs.declared.line.Line.{Line}
-use Rattle.guest_ram.specs.Window.{data_pages}
-use Rattle.session.specs.declared.queue_pair.QueuePair.{QueuePair}
+use Rattle.nvm_model.specs.World.{Lane}
 use Rattle.session.specs.Goes.{Goes}
-use Rattle.session.specs.State.{lane_state, IsPairQuiet}
+use Rattle.session.specs.Leads.{with_work}
+use Rattle.session.specs.State.{work_left}
+use Rattle.session.proofs.ChangeLemmas.{work_stands}
 use Rattle.session.proofs.GoesLemmas.{goes_more}
+use Rattle.session.proofs.LeadsLemmas.{as_is, both_ways, no_fewer, no_more, none_waited, some_items, some_later, some_more, waits_unfetched, with_own_work, work_falls}
+use Rattle.session.proofs.StandsLemmas.{all_reaped, all_fetched, pair_work_is}
 use Rattle.session.proofs.turn.turn.Goals as goal
 
-pub returns-clause-goes : goal.returns-clause-goes
-returns-clause-goes g c =
+pub post_all-requires-clause-stands : goal.post_all-requires-clause-stands
+post_all-requires-clause-stands g c =
+    let fetched = c.fetch_all.ensures.stands in
+    (with_work c.do_pieces.new.window c.do_pieces.new.pair fetched.0, work_stands fetched.1 c.do_pieces.ensures.window c.do_pieces.ensures.pair)
+
+pub returns-clause-turns : goal.returns-clause-turns
+returns-clause-turns g c = λ lane stands.
+    let s = c.args.script.now in
+    let k = c.args.ls.now.lane in
     let told = g.M.Medium.blocks c.args.medium.now in
     let faults = g.M.Medium.faults c.args.medium.now in
     let new_told = g.M.Medium.blocks c.do_pieces.new.medium in
     let new_faults = g.M.Medium.faults c.do_pieces.new.medium in
-    let parts = goes_more (c.reap_all.ensures.goes.each told faults) (goes_more (c.do_acts.ensures.goes.each told faults)
-    (goes_more (c.fetch_all.ensures.goes.each told faults) (goes_more c.do_pieces.ensures.goes (c.post_all.ensures.goes.each new_told new_faults)))) in
-    subst (λ (events : List Line). Goes c.args.script.now c.args.ls.now.lane told faults (lane_state (data_pages c.args.window.now) c.args.pair.now) events
-    new_told new_faults (lane_state (data_pages c.do_pieces.new.window) c.post_all.new.pair) c.post_all.new.events.items) c.clear.ensures.items parts
+    let reaped = c.reap_all.ensures.leads lane stands in
+    let acted = c.do_acts.ensures.leads reaped.new reaped.stands in
+    let fetched = c.fetch_all.ensures.leads acted.new acted.stands in
+    let worked : Lane = with_work c.do_pieces.new.window c.do_pieces.new.pair fetched.new in
+    let posted = c.post_all.ensures.leads worked (work_stands fetched.stands c.do_pieces.ensures.window c.do_pieces.ensures.pair) in
+    let pieces = subst (λ (l : Lane). Goes s k told faults l c.fetch_all.new.events.items new_told new_faults worked c.do_pieces.new.events.items)
+    (with_own_work fetched.stands) (c.do_pieces.ensures.goes fetched.new) in
+    let parts = goes_more (reaped.goes.each told faults) (goes_more (acted.goes.each told faults)
+    (goes_more (fetched.goes.each told faults) (goes_more pieces (posted.goes.each new_told new_faults)))) in
+    record {
+      new = posted.new;
+      stands = posted.stands;
+      goes = subst (λ (events : List Line). Goes s k told faults lane events new_told new_faults posted.new c.post_all.new.events.items) c.clear.ensures.items parts;
+    }
+
+pub returns-clause-window : goal.returns-clause-window
+returns-clause-window g c =
+    let old = c.requires.stands.1.window_is in
+    let new = c.post_all.ensures.stands.1.window_is in
+    (new.number ∙ sym old.number, new.size ∙ sym old.size)
 
 pub returns-clause-onward : goal.returns-clause-onward
 returns-clause-onward g c = λ incomplete.
     let ls = c.args.ls.now in
+    let set = c.requires.lane.set_fits in
     let old = c.args.pair.now in
-    let reaped = c.reap_all.new.pair in
-    let acted = c.do_acts.new.pair in
-    let reaped_fetched : reaped.fetched ≡ old.fetched = ap (λ (p : QueuePair). p.fetched) c.reap_all.ensures.reaped in
-    let reaped_submitted : length reaped.submitted.items ≡ length old.submitted.items = ap (λ (p : QueuePair). length p.submitted.items) c.reap_all.ensures.reaped in
-    let reaped_posted : length reaped.posted.items ≡ length old.posted.items = ap (λ (p : QueuePair). length p.posted.items) c.reap_all.ensures.reaped in
-    let reaped_all : reaped.reaped ≡ length old.posted.items = ap (λ (p : QueuePair). p.reaped) c.reap_all.ensures.reaped in
-    let reaped_acts : reaped.acts_done ≡ old.acts_done = ap (λ (p : QueuePair). p.acts_done) c.reap_all.ensures.reaped in
-    let acted_posted : length acted.posted.items ≡ length reaped.posted.items = ap length c.do_acts.ensures.only.posted in
-    let acted_fetched : acted.fetched ≡ reaped.fetched = c.do_acts.ensures.only.fetched in
-    let acted_reaped : acted.reaped ≡ reaped.reaped = c.do_acts.ensures.only.reaped in
+    let lane = c.requires.stands.0 in
+    let stands = c.requires.stands.1 in
+    let reaped = c.reap_all.ensures.leads lane stands in
+    let acted = c.do_acts.ensures.leads reaped.new reaped.stands in
+    let fetched = c.fetch_all.ensures.leads acted.new acted.stands in
+    let worked : Lane = with_work c.do_pieces.new.window c.do_pieces.new.pair fetched.new in
+    let posted = c.post_all.ensures.leads worked (work_stands fetched.stands c.do_pieces.ensures.window c.do_pieces.ensures.pair) in
+    let old_work = pair_work_is set stands in
+    let new_work = pair_work_is set posted.stands in
+    let running : length fetched.new.running ≡ length c.fetch_all.new.pair.running.items = ap length fetched.stands.numbers.running in
+    let as_many = c.do_pieces.ensures.pair.running in
+    let none : length c.clear.new.self.items ≡ 0 = ap length c.clear.ensures.items in
     let some : 0 < vec_len c.fetch_all.new.events = ⊎_elim
-    (λ (unreaped : old.reaped < length old.posted.items). omega arith)
-    (λ (none_unreaped : length old.posted.items ≤ old.reaped). ⊎_elim
-    (λ (unfetched : old.fetched < length old.submitted.items).
-    let fetched = c.fetch_all.ensures.some (omega arith) (omega arith) in
-    omega arith)
-    (λ (none_unfetched : length old.submitted.items ≤ old.fetched).
-    ⊎_elim
+    (λ (some_reaped : 0 < vec_len c.reap_all.new.events). some_later _ _ _ some_reaped c.do_acts.ensures.few.0 c.fetch_all.ensures.count.0)
+    (λ (none_reaped : vec_len c.reap_all.new.events ≤ 0). ⊎_elim
+    (λ (waits : 0 < c.reap_all.new.pair.waiting).
+    let none_running : length reaped.new.running ≡ 0 = ap length (reaped.stands.numbers.running ∙ c.reap_all.ensures.only.1 ∙ c.requires.none) in
+    some_more _ _ _ (c.fetch_all.ensures.some (λ empty. waits_unfetched _ _ _ _ _ _ _ _ (all_reaped set reaped.stands c.reap_all.ensures.none) none_running reaped.stands.numbers.waiting reaped.stands.ordered.posted
+    (all_fetched set acted.stands empty) acted.related.fetched acted.related.submitted waits)) (as_is _))
+    (λ (none_waits : c.reap_all.new.pair.waiting ≤ 0). ⊎_elim
     (λ (left : old.acts_done < length ls.acts.items).
-    let quiet : IsPairQuiet reaped = (omega arith, ap (λ (p : QueuePair). p.running.items) c.reap_all.ensures.reaped ∙ c.requires.none, omega arith) in
-    let acted_some = c.do_acts.ensures.some quiet (omega arith) in
-    omega arith)
-    (λ (none_left : length ls.acts.items ≤ old.acts_done). absurd (incomplete (omega arith, (omega arith, c.requires.none, omega arith))))
+    some_more _ _ _ (c.do_acts.ensures.some (no_more _ none_waits) (rw c.reap_all.ensures.only.0 left)) c.fetch_all.ensures.count.0)
+    (λ (none_left : length ls.acts.items ≤ old.acts_done).
+    absurd (incomplete (both_ways _ _ stands.numbers.acts_few none_left, none_waited _ _ _ _ c.reap_all.ensures.count none_reaped none_waits)))
     (cases_lt old.acts_done (length ls.acts.items)))
-    (cases_lt old.fetched (length old.submitted.items)))
-    (cases_lt old.reaped (length old.posted.items)) in
-    omega arith
+    (cases_lt 0 c.reap_all.new.pair.waiting))
+    (cases_lt 0 (vec_len c.reap_all.new.events)) in
+    let worked_same : work_left ls worked ≡ work_left ls fetched.new =
+    ap (λ (n : ℕ). 4 * (length ls.acts.items - fetched.new.acts) + 2 * (length fetched.new.submitted - fetched.new.fetched) + n + (length fetched.new.submitted - fetched.new.reaped)) (as_many ∙ sym running) in
+    let least = no_fewer c.do_pieces.new.events c.post_all.new.events _ c.post_all.ensures.count in
+    rw (old_work, new_work) (work_falls _ _ _ _ _ _ _ _ _ _ _ _ none reaped.work acted.work fetched.work worked_same posted.work least (some_items c.fetch_all.new.events some))
