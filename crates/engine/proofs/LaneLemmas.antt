@@ -6,7 +6,7 @@ use Rattle.guest_ram.specs.Window.{WindowState}
 use Rattle.guest_ram.specs.Ram.{windows_made, shape}
 use Rattle.session.specs.Side.{window_of}
 use Rattle.engine.specs.Ended.{Sides}
-use Rattle.engine.specs.Headline.{window_pages}
+use Rattle.engine.specs.Headline.{whole_memory}
 
 -- what a function says of the only element of a list
 pub only_one : {V W X : Type 0} (f : V → W) (size : V → X) (n : X) (xs : List V) (d : V) → map size xs ≡ n ∷ [] → map f xs ≡ f (get_or xs 0 d) ∷ []
@@ -20,7 +20,7 @@ only_set f size n (y ∷ []) x sizes = refl
 only_set f size n (y ∷ z ∷ ys) x sizes = cc
 
 -- the pages of the one window
-pub only_pages : (ram : List WindowState) (k n : ℕ) → shape ram ≡ (k, n) ∷ [] → window_pages ram ≡ (window_of ram).pages ∷ []
+pub only_pages : (ram : List WindowState) (k n : ℕ) → shape ram ≡ (k, n) ∷ [] → whole_memory ram ≡ (window_of ram).pages ∷ []
 only_pages [] k n same = cc
 only_pages (w ∷ []) k n same = refl
 only_pages (w ∷ v ∷ ram) k n same = cc
@@ -43,7 +43,7 @@ abbrev pub sides_are : {V : Type 0} (blocks : V → Option (List (List ℕ))) (f
     map size from ≡ n ∷ [] → map size to ≡ n ∷ [] → shape from_ram ≡ (k, pages) ∷ [] → shape to_ram ≡ (k, pages) ∷ [] →
     Sides (record { shelves = map blocks from; faults = map faults from }) (record { shelves = map blocks to; faults = map faults to })
     (record { shelves = map blocks (slice_set from 0 new_from); faults = map faults (slice_set from 0 new_from) }) (record { shelves = map blocks (slice_set to 0 new_to); faults = map faults (slice_set to 0 new_to) })
-    (window_pages from_ram) (window_pages to_ram)
+    (whole_memory from_ram) (whole_memory to_ram)
 sides_are blocks faults size n k pages from to d e new_from new_to from_ram to_ram one to_one from_shape to_shape = record {
   from_one = record { told = blocks (get_or from 0 d); count = faults (get_or from 0 d); shelves_are = only_one blocks size n from d one; faults_are = only_one faults size n from d one };
   to_one = record { told = blocks (get_or to 0 e); count = faults (get_or to 0 e); shelves_are = only_one blocks size n to e to_one; faults_are = only_one faults size n to e to_one };

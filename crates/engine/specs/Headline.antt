@@ -47,8 +47,8 @@ joined (None ∷ shelves) = None
 joined (Some blocks ∷ shelves) = option_map (λ others. blocks ++ others) (joined shelves)
 
 -- a host's guest memory: each lane's window pages, rings included
-abbrev pub window_pages : List WindowState → List (List (List ℕ))
-window_pages ram = map (λ (window : WindowState). window.pages) ram
+abbrev pub whole_memory : List WindowState → List (List (List ℕ))
+whole_memory ram = map (λ (window : WindowState). window.pages) ram
 
 -- a host's blocks and its whole guest memory, byte for byte, are those of the world
 pub record Holds (head : Head) (shelves : List (Option (List (List ℕ)))) (memory : List (List (List ℕ))) (w : World) : Type 0 where

@@ -9,7 +9,7 @@ ghost use Rattle.engine.specs.Room.{IsRoom};
 ghost use Rattle.session.specs.Work.{IsSized};
 ghost use Rattle.engine.specs.Built.{IsTaken, Spells};
 ghost use Rattle.engine.specs.Claims.{IsBadScript, IsHostSize, IsLong, IsReadFault, IsRefusal, IsUsage, IsWriteFault, OnEnded, OnRefused, OnWriteFault, is_gave_up};
-ghost use Rattle.engine.specs.Headline.{Began, HostsHold, Ran, RoseBy, joined, window_pages};
+ghost use Rattle.engine.specs.Headline.{Began, HostsHold, Ran, RoseBy, joined, whole_memory};
 ghost use Rattle.engine.specs.Sizes.{HaveSizes, sizes_of, first_difference};
 ghost use Rattle.engine.specs.Words.{IsForm};
 
@@ -50,7 +50,7 @@ pub fn nvmigrate<R: Threads + Sync, S: Source, K: Sink, M: Medium + Send, G: Gat
     // those of the world at the end. Where it wasn't, the source holds these.
     ensures hosts { OnEnded result (Ran (S.left input.old) (joined (map M.blocks from.old.shelves.items)) (joined (map M.blocks to.old.shelves.items)) (K.bytes output.old) (K.bytes output.new)
         (λ script blocks lines world. HostsHold script blocks lines world
-        (map M.blocks from.new.shelves.items) (window_pages from.new.ram) (map M.blocks to.new.shelves.items) (window_pages to.new.ram))) }
+        (map M.blocks from.new.shelves.items) (whole_memory from.new.ram) (map M.blocks to.new.shelves.items) (whole_memory to.new.ram))) }
     // Each fault that a line shows, and a migration that was given up, has a failed call of a medium.
     ensures faults { OnEnded result (Ran (S.left input.old) (joined (map M.blocks from.old.shelves.items)) (joined (map M.blocks to.old.shelves.items)) (K.bytes output.old) (K.bytes output.new)
         (λ script blocks lines world. RoseBy (faults_shown lines)
@@ -151,13 +151,13 @@ fn run_hosts<K: Sink, M: Medium>(
         (record { shelves = map M.blocks to.old.shelves.items; faults = map M.faults to.old.shelves.items }) (K.bytes output.old)
         (record { shelves = map M.blocks from.new.shelves.items; faults = map M.faults from.new.shelves.items })
         (record { shelves = map M.blocks to.new.shelves.items; faults = map M.faults to.new.shelves.items })
-        (window_pages from.new.ram) (window_pages to.new.ram) (K.bytes output.new)) }
+        (whole_memory from.new.ram) (whole_memory to.new.ram) (K.bytes output.new)) }
     ensures broken { OnErr result (HasBroken script.now
         (record { shelves = map M.blocks from.old.shelves.items; faults = map M.faults from.old.shelves.items })
         (record { shelves = map M.blocks to.old.shelves.items; faults = map M.faults to.old.shelves.items }) (K.bytes output.old)
         (record { shelves = map M.blocks from.new.shelves.items; faults = map M.faults from.new.shelves.items })
         (record { shelves = map M.blocks to.new.shelves.items; faults = map M.faults to.new.shelves.items })
-        (window_pages from.new.ram) (window_pages to.new.ram) (K.bytes output.new)) }
+        (whole_memory from.new.ram) (whole_memory to.new.ram) (K.bytes output.new)) }
     ensures cause { HasCause (K.faults output.old) (K.faults output.new) result }
 {
     let Room {
@@ -207,11 +207,11 @@ fn run_lane<K: Sink, M: Medium>(
     ensures ran { IfOk result (λ ending. HasEnded script.now ending
         (record { shelves = map M.blocks from.old; faults = map M.faults from.old }) (record { shelves = map M.blocks to.old; faults = map M.faults to.old }) (K.bytes output.old)
         (record { shelves = map M.blocks from.new; faults = map M.faults from.new }) (record { shelves = map M.blocks to.new; faults = map M.faults to.new })
-        (window_pages from_ram.new) (window_pages to_ram.new) (K.bytes output.new)) }
+        (whole_memory from_ram.new) (whole_memory to_ram.new) (K.bytes output.new)) }
     ensures broken { OnErr result (HasBroken script.now
         (record { shelves = map M.blocks from.old; faults = map M.faults from.old }) (record { shelves = map M.blocks to.old; faults = map M.faults to.old }) (K.bytes output.old)
         (record { shelves = map M.blocks from.new; faults = map M.faults from.new }) (record { shelves = map M.blocks to.new; faults = map M.faults to.new })
-        (window_pages from_ram.new) (window_pages to_ram.new) (K.bytes output.new)) }
+        (whole_memory from_ram.new) (whole_memory to_ram.new) (K.bytes output.new)) }
     ensures cause { HasCause (K.faults output.old) (K.faults output.new) result }
 {
     match run(

@@ -1,6 +1,6 @@
 ghost use Rattle.std.specs.Prelude.{◌≡◌, ◌+◌, ◌-◌, ◌<◌, ◌≤◌, List, IfOk, length, replicate, slice_set};
 ghost use Rattle.nvm_model.specs.Memory.{page_at, with_bytes, zero_page};
-ghost use Rattle.guest_ram.specs.Window.{data_pages};
+ghost use Rattle.guest_ram.specs.Window.{ctrl_written, data_pages};
 
 mod span;
 
@@ -57,6 +57,14 @@ impl Window {
         self.pages.len() as u32
     }
 
+    /// The number of data pages, at most 256.
+    pub fn data_pages(&self) -> u16
+        ensures value { result ≡ length (data_pages self.now) }
+        ensures few { result ≤ 256 }
+    {
+        self.pages.len() as u16 - 2
+    }
+
     /// The bytes of window page `j`, from 0, which is there.
     pub fn page(&self, j: u16) -> &[u8; 4096]
         requires { j < length self.now.pages }
@@ -92,6 +100,7 @@ impl Window {
     pub fn write_ctrl(&mut self, j: u16, at: u16, bytes: &[u8])
         requires there { j < length self.old.pages }
         requires within { at + length bytes.now ≤ 4096 }
+        ensures written { self.new ≡ ctrl_written self.old j at bytes.now }
         ensures pages { self.new.pages ≡ with_bytes self.old.pages j at bytes.now }
         ensures data { 2 ≤ j → data_pages self.new ≡ with_bytes (data_pages self.old) (j - 2) at bytes.now }
         ensures lane { self.new.lane ≡ self.old.lane }

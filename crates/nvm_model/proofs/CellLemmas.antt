@@ -5,7 +5,9 @@ use Rattle.std.proofs.lemmas.List.{take_at, drop_at, take-take, take-append-le, 
 use Rattle.std.proofs.lemmas.List.Elements.{All-map, All-head, All-tail}
 use Rattle.nvm_values.specs.declared.sqe.Sqe.{Sqe}
 use Rattle.nvm_values.specs.Sqe.{sqe_bytes}
-use Rattle.nvm_values.specs.Cqe.{CqeFields, cqe_bytes}
+use Rattle.nvm_values.specs.Cqe.{cqe_bytes}
+use Rattle.nvm_values.proofs.SqeLemmas.{length-sqe_bytes}
+use Rattle.nvm_values.proofs.CqeLemmas.{length-cqe_bytes}
 use Rattle.nvm_model.specs.declared.command.Completion.{Completion}
 use Rattle.nvm_model.specs.Memory.{written, zero_page}
 use Rattle.nvm_model.specs.Ring.{cell, ring_page, sq_page, cq_page, completion_entry}
@@ -88,14 +90,6 @@ cell-zero_page k place h =
 pub length-zero_page : length zero_page ≡ 4096
 unfolding zero_page
 length-zero_page = length-replicate {A = ℕ} 4096 0
-
-pub length-sqe_bytes : (e : Sqe) → length (sqe_bytes e) ≡ 64
-unfolding sqe_bytes
-length-sqe_bytes e = refl
-
-pub length-cqe_bytes : (c : CqeFields) → length (cqe_bytes c) ≡ 16
-unfolding cqe_bytes
-length-cqe_bytes c = refl
 
 -- one entry more is written into the cell that is due to its number
 pub ring_page-push : (k n m : ℕ) (entries : List (List ℕ)) (e page : List ℕ) → ring_page k n m (entries ++ e ∷ []) page ≡ written (ring_page k n m entries page) (k * ((m + length entries) % n)) e

@@ -1,4 +1,4 @@
-use Rattle.std.specs.Prelude.{ℕ, zero, suc, ◌+◌, ◌-◌, ◌*◌, ◌/◌, ◌%◌, Bool, false, not, ◌&&◌, ◌||◌, ◌==◌, nat_lt, nat_le, if◌then◌else◌, List, [], ◌∷◌, ◌++◌, Option, Some, None, Result, Ok, Err, is_err, is_none, length, take, drop, replicate}
+use Rattle.std.specs.Prelude.{ℕ, zero, suc, ◌+◌, ◌-◌, ◌*◌, ◌/◌, ◌%◌, Bool, false, not, ◌&&◌, ◌||◌, ◌==◌, nat_lt, nat_le, if◌then◌else◌, List, [], ◌∷◌, ◌++◌, Option, Some, None, Result, Ok, Err, is_err, is_none, length, map, take, drop, replicate}
 use Rattle.std.specs.List.{list_any}
 use Rattle.std.specs.Int.{w64, from_le_bytes}
 use Rattle.nvm_values.specs.declared.sqe.Sqe.{Sqe}
@@ -18,9 +18,16 @@ use Rattle.nvm_model.specs.Memory.{window_address, page_at}
 abbrev pub has_attributes : Sqe → Bool
 has_attributes e = not (fuse_of e == 0) || not (psdt_of e == 0)
 
+-- the identifier is one of these
+abbrev pub is_busy : ℕ → List ℕ → Bool
+is_busy cid busy = list_any (λ (n : ℕ). n == cid) busy
+
+abbrev pub identifiers : List Command → List ℕ
+identifiers running = map (λ (c : Command). c.cid) running
+
 -- the identifier is that of a command of the same lane that was fetched and isn't posted
 abbrev pub is_in_use : ℕ → List Command → Bool
-is_in_use cid running = list_any (λ (c : Command). c.cid == cid) running
+is_in_use cid running = is_busy cid (identifiers running)
 
 abbrev pub is_unknown : Sqe → Bool
 is_unknown e = is_none (op_of e.opcode)
@@ -94,10 +101,11 @@ abbrev pub first_holding : List (Bool × StatusPair) → Option StatusPair
 first_holding [] = None
 first_holding (test ∷ tests) = if test.0 then Some test.1 else first_holding tests
 
-unfoldable pub decision : ℕ → ℕ → List (List ℕ) → List Command → Sqe → Option StatusPair
-decision blocks lane memory running e = first_holding (
+-- the status of an entry, if a test decides it, where these identifiers are in use
+unfoldable pub verdict : ℕ → ℕ → List (List ℕ) → List ℕ → Sqe → Option StatusPair
+verdict blocks lane memory busy e = first_holding (
     (has_attributes e, invalid_field)
-    ∷ (is_in_use e.cid running, id_conflict)
+    ∷ (is_busy e.cid busy, id_conflict)
     ∷ (is_unknown e, invalid_opcode)
     ∷ (has_other_namespace e, invalid_namespace)
     ∷ (is_flush e, success)
@@ -105,6 +113,9 @@ decision blocks lane memory running e = first_holding (
     ∷ (is_out_of_range blocks e, out_of_range)
     ∷ (has_bad_pages lane memory e, invalid_field)
     ∷ [])
+
+abbrev pub decision : ℕ → ℕ → List (List ℕ) → List Command → Sqe → Option StatusPair
+decision blocks lane memory running e = verdict blocks lane memory (identifiers running) e
 
 -- a list of pages as a command keeps it
 abbrev pub as_pages : Result (List ℕ) ℕ → Pages

@@ -2,6 +2,8 @@ pub mod Memory
 pub mod World
 pub mod Check
 pub mod Piece
+pub mod Trace
+pub mod Shelf
 pub mod Event
 pub mod History
 pub mod Text

@@ -4,12 +4,14 @@
 
 mod command;
 mod line;
+mod piece;
 mod ring;
 mod script;
 mod trace;
 
 pub use command::{Command, Completion, Outcome, Pages, Work};
 pub use line::Line;
+pub use piece::{Piece, PieceResult, ShelfEntry, piece_is_local};
 pub use ring::RingState;
 pub use script::{Act, Acts, Head, LaneSet, Script};
 pub use trace::Step;

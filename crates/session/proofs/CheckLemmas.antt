@@ -7,7 +7,7 @@ use Rattle.nvm_values.specs.declared.sqe.Sqe.{Sqe}
 use Rattle.nvm_values.specs.Sqe.{slba_of, count_of}
 use Rattle.nvm_values.specs.Status.{StatusPair, invalid_field}
 use Rattle.nvm_model.specs.declared.command.Command.{Command}
-use Rattle.nvm_model.specs.Check.{first_holding, decision, fetched_command, checked_command, is_unknown, is_flush, has_bad_pages}
+use Rattle.nvm_model.specs.Check.{first_holding, verdict, decision, fetched_command, checked_command, is_unknown, is_flush, has_bad_pages}
 use Rattle.session.specs.Check.{early_tests, early_decision, HasPassed, late_command}
 
 abbrev or_else : Option StatusPair → Option StatusPair → Option StatusPair
@@ -26,7 +26,7 @@ first_append (t ∷ ts) us = ap (cond t.0 (Some t.1)) (first_append ts us) ∙ c
 -- all eight tests are the first seven and the one of the pages
 decision_is : (blocks lane : ℕ) (memory : List (List ℕ)) (running : List Command) (e : Sqe) →
     decision blocks lane memory running e ≡ or_else (early_decision blocks running e) (cond (has_bad_pages lane memory e) (Some invalid_field) None)
-unfolding early_decision decision
+unfolding early_decision verdict
 decision_is blocks lane memory running e = first_append (early_tests blocks running e) ((has_bad_pages lane memory e, invalid_field) ∷ [])
 
 -- a command that one of the first seven tests stops

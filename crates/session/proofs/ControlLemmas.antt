@@ -11,7 +11,8 @@ use Rattle.nvm_model.specs.Event.{phase_of}
 use Rattle.nvm_model.specs.Memory.{page_at, with_bytes, written}
 use Rattle.nvm_model.specs.Ring.{CqState, IsCqPage, IsCqRing, IsSqRing, cell, completion_entry}
 use Rattle.nvm_model.specs.World.{Lane}
-use Rattle.nvm_model.proofs.CellLemmas.{cell-written, length-cq_page, length-cqe_bytes}
+use Rattle.nvm_model.proofs.CellLemmas.{cell-written, length-cq_page}
+use Rattle.nvm_values.proofs.CqeLemmas.{length-cqe_bytes}
 use Rattle.nvm_model.proofs.PlaceLemmas.{next_place-mod}
 use Rattle.nvm_ring.specs.Moves.{after_post, phase_at, with_phase}
 use Rattle.nvm_ring.specs.Stands.{Fetched as GivesOldest, FetchesOldest}

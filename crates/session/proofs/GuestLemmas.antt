@@ -14,7 +14,8 @@ use Rattle.nvm_model.specs.Memory.{page_at, with_bytes, written}
 use Rattle.nvm_model.specs.Ring.{CqState, GuestCqState, IsCqRing, IsGuestCq, IsSqRing, cell, completion_entry, next_place}
 use Rattle.nvm_model.specs.ScriptText.{IsSet}
 use Rattle.nvm_model.specs.World.{Lane}
-use Rattle.nvm_model.proofs.CellLemmas.{cell-written, length-sq_page, length-sqe_bytes}
+use Rattle.nvm_model.proofs.CellLemmas.{cell-written, length-sq_page}
+use Rattle.nvm_values.proofs.SqeLemmas.{length-sqe_bytes}
 use Rattle.nvm_model.proofs.PlaceLemmas.{next_place-mod}
 use Rattle.nvm_ring.specs.Moves.{after_reap, after_submit, phase_at}
 use Rattle.nvm_ring.specs.Stands.{Reaped}

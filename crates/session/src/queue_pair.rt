@@ -29,7 +29,7 @@ impl QueuePair {
     pub(crate) fn is_in_use(&self, cid: u16) -> bool
         ensures { result ≡ is_in_use cid self.now.running.items }
     {
-        self.running.iter().any(|c| c.cid == cid)
+        self.running.iter().map(|c| c.cid).any(|busy| busy == cid)
     }
 }
 

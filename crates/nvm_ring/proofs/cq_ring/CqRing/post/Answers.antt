@@ -1,7 +1,7 @@
 use Rattle.std.proofs.Common.{ℕ, ◌*◌, Bool, length, refl, sym, ap, ◌∙◌}
 use Rattle.nvm_model.specs.Memory.{written}
 use Rattle.nvm_model.specs.Ring.{CqState}
-use Rattle.nvm_model.proofs.CellLemmas.{length-cqe_bytes}
+use Rattle.nvm_values.proofs.CqeLemmas.{length-cqe_bytes}
 use Rattle.nvm_ring.specs.Moves.{phase_at, with_phase}
 use Rattle.nvm_ring.proofs.RingLemmas.{posted-newest, posted-room}
 use Rattle.nvm_ring.proofs.cq_ring.CqRing.post.Goals as goal

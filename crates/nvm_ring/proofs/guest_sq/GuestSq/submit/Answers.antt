@@ -1,6 +1,6 @@
 use Rattle.std.proofs.Common.{◌*◌, length, sym, ap, ◌∙◌}
 use Rattle.nvm_model.specs.Memory.{written}
-use Rattle.nvm_model.proofs.CellLemmas.{length-sqe_bytes}
+use Rattle.nvm_values.proofs.SqeLemmas.{length-sqe_bytes}
 use Rattle.nvm_ring.proofs.RingLemmas.{submitted-newest}
 use Rattle.nvm_ring.proofs.guest_sq.GuestSq.submit.Goals as goal
 

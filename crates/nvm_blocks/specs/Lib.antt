@@ -1,0 +1,3 @@
+pub mod ShelfState
+pub mod Work
+pub mod Done
