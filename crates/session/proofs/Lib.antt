@@ -1,5 +1,4 @@
 pub mod ChangeLemmas
-pub mod CheckLemmas
 pub mod ControlLemmas
 pub mod CopyLemmas
 pub mod GuestLemmas

@@ -27,16 +27,16 @@ use Rattle.nvm_model.specs.declared.line.Line.TheVariants as line
 use Rattle.nvm_model.specs.declared.script.Act.{Act}
 use Rattle.nvm_model.specs.declared.script.Act.TheVariants.{Fill, Poke, List as PrpList, Submit, Raw, Wait, Idle}
 use Rattle.nvm_model.specs.declared.script.Script.{Script}
-use Rattle.nvm_model.specs.Check.{first_holding, fetched_command, checked_command, opened, has_bad_pages}
+use Rattle.nvm_model.specs.Check.{first_holding, identifiers, fetched_command, checked_command, opened, has_bad_pages}
 use Rattle.nvm_model.specs.Event.{submitted_by, DoesAct, Reaps, Fetches, Posts, DoesPiece, LaneStep, lane_number}
 use Rattle.nvm_model.specs.Piece.{piece_count, piece_at, pieces_left, OutcomeFits, MovesTo, ComparesTo, bytes_of, digest_after, outcome_status, is_success, after_piece}
 use Rattle.nvm_model.specs.ScriptText.{IsSet, IsAct, IsHead}
 use Rattle.nvm_model.specs.Text.{IsStatus, IsOutcome, IsDigest, DigestMayStand, IsLine}
 use Rattle.nvm_model.specs.World.{Lane, set_of, acts_of}
-use Rattle.session.specs.Check.{early_tests, early_decision, HasPassed}
+use Rattle.nvm_cmd.specs.Check.{early_tests, early_verdict, HasPassed}
 use Rattle.session.specs.Goes.{LaneSteps}
 use Rattle.session.specs.Range.{IsWorkOf, IsCommandOf, IsEntry, IsCompletion, IsInRange}
-use Rattle.session.proofs.CheckLemmas.{stopped, passed_on, has_passed}
+use Rattle.nvm_cmd.proofs.CheckLemmas.{stopped, passed_on, has_passed}
 
 -- a new lane is in range
 pub new_in_range : (s : Script) (lane : Lane) → lane.submitted ≡ [] → lane.running ≡ [] → lane.posted ≡ [] → IsInRange s lane
@@ -118,9 +118,9 @@ first_status : (tests : List (Bool × StatusPair)) → AllByRecursion (λ (t : B
 first_status [] all = tt
 first_status (t ∷ tests) all = status_if t.0 t.1 (first_holding tests) all.0 (first_status tests all.1)
 
-early_status : (blocks : ℕ) (running : List Command) (e : Sqe) → IfSome (early_decision blocks running e) IsStatus
-unfolding early_decision
-early_status blocks running e = first_status (early_tests blocks running e)
+early_status : (blocks : ℕ) (busy : List ℕ) (e : Sqe) → IfSome (early_verdict blocks busy e) IsStatus
+unfolding early_verdict
+early_status blocks busy e = first_status (early_tests blocks busy e)
     ((omega arith, omega arith), ((omega arith, omega arith), ((omega arith, omega arith), ((omega arith, omega arith), ((omega arith, omega arith), ((omega arith, omega arith), ((omega arith, omega arith), tt)))))))
 
 -- the work of an entry that passed
@@ -133,16 +133,17 @@ late_in_range : (blocks lane : ℕ) (memory : List (List ℕ)) (e : Sqe) (bad : 
 late_in_range blocks lane memory e true is passed = record { cid = is; status = (omega arith, omega arith); work = tt }
 late_in_range blocks lane memory e false is passed = record { cid = is; status = (omega arith, omega arith); work = opened_work blocks lane memory e (op_of e.opcode) passed }
 
-decided_in_range : (blocks lane : ℕ) (memory : List (List ℕ)) (running : List Command) (e : Sqe) (early : Option StatusPair) → early ≡ early_decision blocks running e → IfSome early IsStatus →
+decided_in_range : (blocks lane : ℕ) (memory : List (List ℕ)) (running : List Command) (e : Sqe) (early : Option StatusPair) → early ≡ early_verdict blocks (identifiers running) e → IfSome early IsStatus →
     IsEntry e → IsCommandOf blocks (checked_command blocks lane memory running e)
 decided_in_range blocks lane memory running e (Some status) same fits is =
-    subst (IsCommandOf blocks) (stopped blocks lane memory running e status same) (record { cid = is; status = fits; work = tt })
+    subst (λ (v : Option StatusPair). IsCommandOf blocks (fetched_command v lane memory e)) (sym (stopped blocks lane memory (identifiers running) e status same)) (record { cid = is; status = fits; work = tt })
 decided_in_range blocks lane memory running e None same fits is =
-    subst (IsCommandOf blocks) (passed_on blocks lane memory running e same) (late_in_range blocks lane memory e (has_bad_pages lane memory e) is (has_passed blocks running e same))
+    subst (λ (v : Option StatusPair). IsCommandOf blocks (fetched_command v lane memory e)) (sym (passed_on blocks lane memory (identifiers running) e same))
+    (late_in_range blocks lane memory e (has_bad_pages lane memory e) is (has_passed blocks (identifiers running) e same))
 
 -- the command that a fetch makes
 checked_in_range : (blocks lane : ℕ) (memory : List (List ℕ)) (running : List Command) (e : Sqe) → IsEntry e → IsCommandOf blocks (checked_command blocks lane memory running e)
-checked_in_range blocks lane memory running e is = decided_in_range blocks lane memory running e (early_decision blocks running e) refl (early_status blocks running e) is
+checked_in_range blocks lane memory running e is = decided_in_range blocks lane memory running e (early_verdict blocks (identifiers running) e) refl (early_status blocks (identifiers running) e) is
 
 left_few : (shelf blocks cid : ℕ) (status : StatusPair) (work : Option Work) → blocks ≤ 131072 → IfSome work (IsWorkOf blocks) → pieces_left shelf (record { cid = cid; status = status; work = work }) < 2 ^ 32
 left_few shelf blocks cid status None small is = omega arith

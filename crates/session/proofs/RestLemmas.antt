@@ -21,7 +21,7 @@ use Rattle.nvm_model.specs.declared.script.Act.{Act}
 use Rattle.nvm_model.specs.declared.script.Act.TheVariants.{Fill, Poke, List as PrpList, Submit, Raw, Wait, Idle}
 use Rattle.nvm_model.specs.declared.script.LaneSet.{LaneSet}
 use Rattle.nvm_model.specs.declared.script.Script.{Script}
-use Rattle.nvm_model.specs.Check.{opened, fetched_command, checked_command, has_bad_pages}
+use Rattle.nvm_model.specs.Check.{identifiers, opened, fetched_command, checked_command, has_bad_pages}
 use Rattle.nvm_model.specs.Event.{LaneStep, lane_number, head_of_last, phase_of, MayDo, untold_entries, submitted_by, pages_after_act}
 use Rattle.nvm_model.specs.History.{shows_fault, is_faulted}
 use Rattle.nvm_model.specs.Piece.{OutcomeFits, piece_count, pieces_left, done_blocks, blocks_after, memory_after, digest_after, after_piece}
@@ -29,11 +29,11 @@ use Rattle.nvm_model.specs.ScriptText.{IsSet}
 use Rattle.nvm_model.specs.World.{Lane, set_of, acts_of, IsQuiet}
 use Rattle.session.specs.declared.lane_script.LaneScript.{LaneScript}
 use Rattle.session.specs.declared.piece.Piece.{Piece}
-use Rattle.session.specs.Check.{early_decision, HasPassed, late_command}
 use Rattle.session.specs.State.{IsLaneOf}
 use Rattle.session.specs.Work.{EqualsAt}
 use Rattle.session.specs.Rest.{IsServed, IsAtRest, CanEnd}
-use Rattle.session.proofs.CheckLemmas.{stopped, passed_on, has_passed}
+use Rattle.nvm_cmd.specs.Check.{early_verdict, HasPassed}
+use Rattle.nvm_cmd.proofs.CheckLemmas.{stopped, passed_on, has_passed}
 use Rattle.session.proofs.WorkLemmas.{one_piece, whole_work, finished_after}
 
 -- The outcome of a piece.
@@ -83,25 +83,21 @@ record IsNewWork (blocks : ℕ) (work : Work) : Type 0 where
 abbrev HasNewWork : ℕ → Command → Type 0
 HasNewWork blocks command = IfSome command.work (IsNewWork blocks)
 
--- a command that passed the tests which need no page
-late_is_new : (blocks lane : ℕ) (memory : List (List ℕ)) (e : Sqe) → HasPassed blocks e → HasNewWork blocks (late_command lane memory e)
-late_is_new blocks lane memory e passed = by (has_bad_pages lane memory e)
-  where
-    opens : (o : Option Op) → IsSomeAnd o (λ op. op ≡ Flush → ⊥) → IfSome (opened lane memory e o) (IsNewWork blocks)
-    opens None known = absurd known
-    opens (Some op) known = record { op = known; none_done = refl; some = omega arith; within = passed.within }
-
-    by : (bad : Bool) → HasNewWork blocks (fetched_command (cond bad (Some invalid_field) None) lane memory e)
-    by true = tt
-    by false = opens (op_of e.opcode) passed.known
-
 -- a command as a fetch makes it
 checked_is_new : (blocks lane : ℕ) (memory : List (List ℕ)) (running : List Command) (e : Sqe) → HasNewWork blocks (checked_command blocks lane memory running e)
-checked_is_new blocks lane memory running e = by (early_decision blocks running e) refl
+checked_is_new blocks lane memory running e = by (early_verdict blocks (identifiers running) e) refl
   where
-    by : (early : Option StatusPair) → early ≡ early_decision blocks running e → HasNewWork blocks (checked_command blocks lane memory running e)
-    by None is = subst (HasNewWork blocks) (passed_on blocks lane memory running e is) (late_is_new blocks lane memory e (has_passed blocks running e is))
-    by (Some status) is = subst (HasNewWork blocks) (stopped blocks lane memory running e status is) tt
+    opens : (o : Option Op) → HasPassed blocks e → IsSomeAnd o (λ op. op ≡ Flush → ⊥) → IfSome (opened lane memory e o) (IsNewWork blocks)
+    opens None passed known = absurd known
+    opens (Some op) passed known = record { op = known; none_done = refl; some = omega arith; within = passed.within }
+
+    late : (bad : Bool) → HasPassed blocks e → HasNewWork blocks (fetched_command (cond bad (Some invalid_field) None) lane memory e)
+    late true passed = tt
+    late false passed = opens (op_of e.opcode) passed passed.known
+
+    by : (early : Option StatusPair) → early ≡ early_verdict blocks (identifiers running) e → HasNewWork blocks (checked_command blocks lane memory running e)
+    by None is = subst (λ (v : Option StatusPair). HasNewWork blocks (fetched_command v lane memory e)) (sym (passed_on blocks lane memory (identifiers running) e is)) (late (has_bad_pages lane memory e) (has_passed blocks (identifiers running) e is))
+    by (Some status) is = subst (λ (v : Option StatusPair). HasNewWork blocks (fetched_command v lane memory e)) (sym (stopped blocks lane memory (identifiers running) e status is)) tt
 
 -- The events that are left.
 

@@ -7,5 +7,4 @@ pub mod Run
 pub mod State
 pub mod Leads
 pub mod Takes
-pub mod Check
 pub mod Work

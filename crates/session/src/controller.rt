@@ -86,7 +86,7 @@ fn fetch(
     ensures capacity { vec_capacity events.new ≡ vec_capacity events.old }
 {
     let entry = take_entry(window, pair);
-    let command = check(script.head.blocks, pair, window, &entry);
+    let command = check(script.head.blocks, &pair.running, window, &entry);
     let pieces = pieces_left(script.head.shelf, &command);
     pair.running.push_back_reserved(command);
     events.push_reserved(Line::Fetch {

@@ -153,7 +153,7 @@ fn piece_line(lane: LaneNo, command: &Command, work: &Work, done: &PieceResult) 
     }
 }
 
-fn command_at(commands: &VecDeque<Command>, place: usize) -> Command
+pub(crate) fn command_at(commands: &VecDeque<Command>, place: usize) -> Command
     requires { place < length commands.now.items }
     ensures at { slice_get commands.now.items place ≡ Some result }
     ensures value { result ≡ slice_index_or commands.now.items place no_command }

@@ -22,18 +22,6 @@ pub struct QueuePair {
 }
 
 impl QueuePair {
-    ghost use Rattle.std.specs.Prelude.{◌≡◌};
-    ghost use Rattle.nvm_model.specs.Check.{is_in_use};
-
-    /// Whether a command with this identifier was fetched and isn't posted.
-    pub(crate) fn is_in_use(&self, cid: u16) -> bool
-        ensures { result ≡ is_in_use cid self.now.running.items }
-    {
-        self.running.iter().map(|c| c.cid).any(|busy| busy == cid)
-    }
-}
-
-impl QueuePair {
     ghost use Rattle.std.specs.Prelude.{IfOk, ◌≡◌};
     ghost use Rattle.session.specs.State.{IsLaneOf, IsNewPair};
 

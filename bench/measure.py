@@ -1,0 +1,89 @@
+#!/usr/bin/env python3
+"""Runs the proved program on large scripts at three sizes each, and prints seconds and peak memory.
+
+Usage: bench/measure.py [PROGRAM]
+
+PROGRAM is the built program; without it `./nvmigrate` of this repository, which builds it first where it isn't yet.
+"""
+import os
+import subprocess
+import sys
+import tempfile
+import time
+
+TOP = os.path.dirname(os.path.dirname(os.path.abspath(__file__)))
+
+PACE = ["burst 64", "mix 0", "change 4", "slice 4"]
+
+
+def head(blocks, pages, move=None):
+    """The head of a script of one lane over one shelf, with a suspended move where a turn is given."""
+    small = blocks if move else 4
+    lines = ["nvmigrate script 1", f"blocks {blocks}", f"shelf {blocks}", "lanes 1"]
+    lines += [f"lane 1 sq 64 cq 256 pages {pages}"] + PACE
+    lines += [f"small {small}", "pages 2064" if move else "pages 4", "patience 8"]
+    return lines + ([f"migrate {move}"] if move else [])
+
+
+def many_acts(acts):
+    """Writes and reads of one block, thirty of each before a wait."""
+    lines, cid = head(1024, 2), 0
+    while len(lines) < acts + 12:
+        if (cid + 1) % 61 == 0:
+            lines.append("1 wait")
+        else:
+            op, page = ("write", 0) if cid % 2 == 0 else ("read", 1)
+            lines.append(f"1 submit {cid % 65536} {op} {cid % 1024} 1 {page} -")
+        cid += 1
+    return lines
+
+
+def long_transfers(commands):
+    """Writes and reads of 64 blocks by a list page, over a namespace of 65,536 blocks."""
+    lines = head(65536, 10)
+    lines += ["1 fill 0 5a", "1 list 9 1 2 3 4 5 6 7"]
+    for i in range(commands):
+        op = "write" if i % 2 == 0 else "read"
+        lines.append(f"1 submit {i % 65536} {op} {(i * 64) % 65536} 64 0 9")
+    return lines
+
+
+def moved_blocks(blocks):
+    """A move of a namespace while the guest is suspended."""
+    return head(blocks, 1, move=1) + ["1 submit 1 write 0 1 0 -"]
+
+
+KINDS = [
+    ("acts", many_acts, [16384, 32768, 65536]),
+    ("transfers of 64 blocks", long_transfers, [4096, 16384, 65534]),
+    ("blocks moved", moved_blocks, [16384, 32768, 65536]),
+]
+
+
+def measure(program, lines):
+    """Seconds, peak kilobytes and exit status of one run, and the bytes of its transcript."""
+    blocks = lines[1].split()[1]
+    with tempfile.TemporaryDirectory() as folder:
+        script, text = os.path.join(folder, "script"), os.path.join(folder, "text")
+        with open(script, "w") as f:
+            f.write("\n".join(lines + ["end"]) + "\n")
+        with open(script) as source, open(text, "wb") as sink:
+            start = time.monotonic()
+            child = subprocess.Popen([program, "run", "serial", blocks, blocks], stdin=source, stdout=sink)
+            _, status, usage = os.wait4(child.pid, 0)
+            seconds = time.monotonic() - start
+        return seconds, usage.ru_maxrss, os.waitstatus_to_exitcode(status), os.path.getsize(text)
+
+
+def main():
+    program = sys.argv[1] if len(sys.argv) > 1 else os.path.join(TOP, "nvmigrate")
+    subprocess.run([program, "--version"], check=True, stdout=subprocess.DEVNULL)
+    print(f"{'input':24} {'size':>7} {'seconds':>8} {'peak KiB':>9} {'transcript':>11} status")
+    for name, make, sizes in KINDS:
+        for size in sizes:
+            seconds, peak, status, text = measure(program, make(size))
+            print(f"{name:24} {size:7} {seconds:8.2f} {peak:9} {text:11} {status}")
+
+
+if __name__ == "__main__":
+    main()

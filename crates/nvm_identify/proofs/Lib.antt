@@ -1,0 +1,3 @@
+pub mod ControllerLemmas
+pub mod NamespaceLemmas
+pub mod PlaceLemmas
