@@ -3,6 +3,7 @@ use Rattle.std.specs.Prelude.{sum, cond}
 use Rattle.std.specs.List.{AllByRecursion}
 use Rattle.std.proofs.lemmas.List.Elements.{All-head, All-tail}
 use Rattle.std.proofs.lemmas.List.Sums.{sum_by-append, sum_by-cons}
+use Rattle.mig_base.specs.Count.{RiseBy}
 use Rattle.nvm_model.specs.declared.line.Line.{Line}
 use Rattle.nvm_model.specs.declared.line.Line.TheVariants as line
 use Rattle.nvm_model.specs.declared.script.Head.{Head}
@@ -11,6 +12,7 @@ use Rattle.nvm_model.specs.Ring.{lane_window}
 use Rattle.nvm_model.specs.declared.script.Script.{Script}
 use Rattle.nvm_model.specs.World.{Lane, World, new_lane, start_world, lane_of, set_of, acts_of, IsQuiet}
 use Rattle.nvm_model.specs.History.{has_given_up, Steps, Reaches, AreEvents, IsLaneComplete, Complete, IsMigration, faults_shown, shows_fault}
+use Rattle.nvm_model.specs.Shelf.{joined}
 use Rattle.nvm_model.specs.Text.{IsLine, text_of}
 use Rattle.session.specs.declared.ending.Ending.{Ending}
 use Rattle.session.specs.declared.ending.Ending.TheVariants.{Done, GaveUp}
@@ -18,7 +20,7 @@ use Rattle.session.specs.Goes.{LaneSteps}
 use Rattle.session.specs.Run.{AreMoving, WholeRun, SidesHold, RoseTogether, HasRun, HasStopped, IfTold, body_of, framed}
 use Rattle.engine.specs.Built.{IsTaken, Spells}
 use Rattle.engine.specs.Ended.{gives_up, Media, Single, HasEnded, HasBroken}
-use Rattle.engine.specs.Headline.{Run, Ran, Began, joined, Holds, HoldMoved, HostsHold, RoseBy}
+use Rattle.engine.specs.Headline.{Run, Ran, Began, Holds, HoldMoved, HostsHold}
 use Rattle.engine.proofs.HistoryLemmas.{alone, all_steps, are_events, events_are, whole_lines, given_up_is, resumed, not_resumed, stayed_unresumed, given_up_unresumed}
 
 -- The world of the one lane.
@@ -169,14 +171,14 @@ told_began P input s (Some blocks) (Some other) count to_count (Some before) new
 )
 
 -- two counts that rose together are two lists of counts that did
-rose_both : (n : ℕ) (from to new_from new_to : Media) (a : Single from) (b : Single to) (c : Single new_from) (d : Single new_to) → RoseTogether n a.count b.count c.count d.count → RoseBy n (from.faults ++ to.faults) (new_from.faults ++ new_to.faults)
+rose_both : (n : ℕ) (from to new_from new_to : Media) (a : Single from) (b : Single to) (c : Single new_from) (d : Single new_to) → RoseTogether n a.count b.count c.count d.count → RiseBy n (from.faults ++ to.faults) (new_from.faults ++ new_to.faults)
 rose_both n from to new_from new_to a b c d rose =
-    subst (λ (old : List ℕ). RoseBy n (old ++ to.faults) (new_from.faults ++ new_to.faults)) (sym a.faults_are)
-    (subst (λ (old : List ℕ). RoseBy n (a.count ∷ old) (new_from.faults ++ new_to.faults)) (sym b.faults_are)
-    (subst (λ (new : List ℕ). RoseBy n (a.count ∷ b.count ∷ []) (new ++ new_to.faults)) (sym c.faults_are)
-    (subst (λ (new : List ℕ). RoseBy n (a.count ∷ b.count ∷ []) (c.count ∷ new)) (sym d.faults_are) (rose_two n a.count b.count c.count d.count rose))))
+    subst (λ (old : List ℕ). RiseBy n (old ++ to.faults) (new_from.faults ++ new_to.faults)) (sym a.faults_are)
+    (subst (λ (old : List ℕ). RiseBy n (a.count ∷ old) (new_from.faults ++ new_to.faults)) (sym b.faults_are)
+    (subst (λ (new : List ℕ). RiseBy n (a.count ∷ b.count ∷ []) (new ++ new_to.faults)) (sym c.faults_are)
+    (subst (λ (new : List ℕ). RiseBy n (a.count ∷ b.count ∷ []) (c.count ∷ new)) (sym d.faults_are) (rose_two n a.count b.count c.count d.count rose))))
   where
-    rose_two : (n a b c d : ℕ) → RoseTogether n a b c d → RoseBy n (a ∷ b ∷ []) (c ∷ d ∷ [])
+    rose_two : (n a b c d : ℕ) → RoseTogether n a b c d → RiseBy n (a ∷ b ∷ []) (c ∷ d ∷ [])
     rose_two n a b c d rose below =
         let small = All-head (λ (count : ℕ). count < 2 ^ 64 - 1) c (d ∷ []) below in
         let other = All-head (λ (count : ℕ). count < 2 ^ 64 - 1) d [] (All-tail (λ (count : ℕ). count < 2 ^ 64 - 1) c (d ∷ []) below) in
@@ -231,10 +233,10 @@ hosts {s} {ending} {new_from} {new_to} {from_memory} {to_memory} t =
 
 pub rose : {input : Option (List ℕ)} {s : Script} {ending : Ending} {from to : Media} {bytes : Option (List ℕ)} {new_from new_to : Media} {from_memory to_memory : List (List (List ℕ))} {new_bytes : Option (List ℕ)} →
     Told input s ending from to bytes new_from new_to from_memory to_memory new_bytes →
-    Ran input (joined from.shelves) (joined to.shelves) bytes new_bytes (λ script blocks lines world. RoseBy (faults_shown lines) (from.faults ++ to.faults) (new_from.faults ++ new_to.faults))
+    Ran input (joined from.shelves) (joined to.shelves) bytes new_bytes (λ script blocks lines world. RiseBy (faults_shown lines) (from.faults ++ to.faults) (new_from.faults ++ new_to.faults))
 rose {from} {to} {new_from} {new_to} t =
     let sides = t.ended.sides in
-    ended_ran (λ script blocks lines world. RoseBy (faults_shown lines) (from.faults ++ to.faults) (new_from.faults ++ new_to.faults)) _ _ _ _ _ _ _ _ _ _ _ t.taken t.spelled t.ended
+    ended_ran (λ script blocks lines world. RiseBy (faults_shown lines) (from.faults ++ to.faults) (new_from.faults ++ new_to.faults)) _ _ _ _ _ _ _ _ _ _ _ t.taken t.spelled t.ended
     (λ blocks lines w facts. rose_both (faults_shown lines) from to new_from new_to sides.from_one sides.to_one sides.new_from_one sides.new_to_one facts.rose)
 
 pub gave_up : {input : Option (List ℕ)} {s : Script} {ending : Ending} {from to : Media} {bytes : Option (List ℕ)} {new_from new_to : Media} {from_memory to_memory : List (List (List ℕ))} {new_bytes : Option (List ℕ)} {b : Bool} →
@@ -244,9 +246,9 @@ gave_up {b} t is = ended_ran (λ script blocks lines world. has_given_up lines �
 -- and of one that stopped
 pub began : (input : Option (List ℕ)) {s : Script} {from to : Media} {bytes : Option (List ℕ)} {new_from new_to : Media} {from_memory to_memory : List (List (List ℕ))} {new_bytes : Option (List ℕ)} →
     IsTaken s → Spells input s → HasBroken s from to bytes new_from new_to from_memory to_memory new_bytes →
-    Began input (joined from.shelves) (joined to.shelves) bytes new_bytes (λ script blocks lines world. Complete script world × RoseBy (faults_shown lines) (from.faults ++ to.faults) (new_from.faults ++ new_to.faults))
+    Began input (joined from.shelves) (joined to.shelves) bytes new_bytes (λ script blocks lines world. Complete script world × RiseBy (faults_shown lines) (from.faults ++ to.faults) (new_from.faults ++ new_to.faults))
 began input {s} {from} {to} {bytes} {new_from} {new_to} {new_bytes} taken spelled h =
-    let P = λ (script : Script) (blocks : List (List ℕ)) (lines : List Line) (world : World). Complete script world × RoseBy (faults_shown lines) (from.faults ++ to.faults) (new_from.faults ++ new_to.faults) in
+    let P = λ (script : Script) (blocks : List (List ℕ)) (lines : List Line) (world : World). Complete script world × RiseBy (faults_shown lines) (from.faults ++ to.faults) (new_from.faults ++ new_to.faults) in
     subst (λ (told : Option (List (List ℕ))). Began input told (joined to.shelves) bytes new_bytes P) (sym (joined_is from h.sides.from_one))
     (subst (λ (told : Option (List (List ℕ))). Began input h.sides.from_one.told told bytes new_bytes P) (sym (joined_is to h.sides.to_one))
     (told_began P input s h.sides.from_one.told h.sides.to_one.told h.sides.from_one.count h.sides.to_one.count bytes h.sides.new_from_one.count h.sides.new_to_one.count new_bytes taken spelled h.run

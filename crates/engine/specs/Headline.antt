@@ -1,9 +1,9 @@
-use Rattle.std.specs.Prelude.{◌≡◌, ℕ, ◌+◌, ◌-◌, ◌^◌, ◌<◌, ◌≤◌, List, [], ◌∷◌, ◌++◌, Option, Some, None, All, length, map, sum, take}
-use Rattle.std.specs.Option.{option_map}
+use Rattle.std.specs.Prelude.{◌≡◌, ℕ, ◌≤◌, List, ◌++◌, Option, Some, None, length, map, take}
 use Rattle.nvm_model.specs.declared.line.Line.{Line}
 use Rattle.nvm_model.specs.declared.script.Script.{Script}
 use Rattle.nvm_model.specs.declared.script.Head.{Head}
 use Rattle.nvm_model.specs.Ring.{lane_windows}
+use Rattle.nvm_model.specs.Shelf.{joined}
 use Rattle.nvm_model.specs.World.{World}
 use Rattle.guest_ram.specs.Window.{WindowState}
 use Rattle.nvm_model.specs.History.{events_of, events_before_resume, Reaches, IsWhole}
@@ -40,12 +40,6 @@ Began input None other before after P = Unit {0}
 Began input (Some blocks) None before after P = Unit {0}
 Began input (Some blocks) (Some other) None after P = Unit {0}
 
--- a namespace's blocks, shelf after shelf, where each shelf's are told
-abbrev pub joined : List (Option (List (List ℕ))) → Option (List (List ℕ))
-joined [] = Some []
-joined (None ∷ shelves) = None
-joined (Some blocks ∷ shelves) = option_map (λ others. blocks ++ others) (joined shelves)
-
 -- a host's guest memory: each lane's window pages, rings included
 abbrev pub whole_memory : List WindowState → List (List (List ℕ))
 whole_memory ram = map (λ (window : WindowState). window.pages) ram
@@ -64,7 +58,3 @@ HoldMoved (Some before) s blocks w from from_memory to to_memory = (v : World) �
 -- the guest was moved where the lines have `resume to`
 abbrev pub HostsHold : Script → List (List ℕ) → List Line → World → List (Option (List (List ℕ))) → List (List (List ℕ)) → List (Option (List (List ℕ))) → List (List (List ℕ)) → Type 0
 HostsHold s blocks lines w from from_memory to to_memory = HoldMoved (events_before_resume lines) s blocks w from from_memory to to_memory
-
--- The counts of faults rose by n or more together, as far as they hadn't reached their types' ends.
-abbrev pub RoseBy : ℕ → List ℕ → List ℕ → Type 0
-RoseBy n before now = All (λ count. count < 2 ^ 64 - 1) now → n + sum before ≤ sum now

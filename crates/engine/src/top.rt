@@ -1,7 +1,8 @@
 // The top call.
 ghost use Rattle.std.specs.Prelude.{◌≡◌, ◌+◌, ◌/◌, ◌++◌, ◌∷◌, [], None, Some, Ok, IfOk, IfErr, IfNone, IfSome, OnErr, OnOk, All, map, string_bytes, vec_capacity, ◌≤◌};
-ghost use Rattle.mig_base.specs.Count.{HasCause, RisesBy};
+ghost use Rattle.mig_base.specs.Count.{HasCause, RiseBy, RisesBy};
 ghost use Rattle.nvm_model.specs.History.{Complete, faults_shown, has_given_up};
+ghost use Rattle.nvm_model.specs.Shelf.{joined};
 ghost use Rattle.guest_ram.specs.Ram.{windows_made};
 ghost use Rattle.session.specs.State.{IsLaneOf, IsNewPair};
 ghost use Rattle.engine.specs.Ended.{HasBroken, HasEnded};
@@ -9,7 +10,7 @@ ghost use Rattle.engine.specs.Room.{IsRoom};
 ghost use Rattle.session.specs.Work.{IsSized};
 ghost use Rattle.engine.specs.Built.{IsTaken, Spells};
 ghost use Rattle.engine.specs.Claims.{IsBadScript, IsHostSize, IsLong, IsReadFault, IsRefusal, IsUsage, IsWriteFault, OnEnded, OnRefused, OnWriteFault, is_gave_up};
-ghost use Rattle.engine.specs.Headline.{Began, HostsHold, Ran, RoseBy, joined, whole_memory};
+ghost use Rattle.engine.specs.Headline.{Began, HostsHold, Ran, whole_memory};
 ghost use Rattle.engine.specs.Sizes.{HaveSizes, sizes_of, first_difference};
 ghost use Rattle.engine.specs.Words.{IsForm};
 
@@ -53,14 +54,14 @@ pub fn nvmigrate<R: Threads + Sync, S: Source, K: Sink, M: Medium + Send, G: Gat
         (map M.blocks from.new.shelves.items) (whole_memory from.new.ram) (map M.blocks to.new.shelves.items) (whole_memory to.new.ram))) }
     // Each fault that a line shows, and a migration that was given up, has a failed call of a medium.
     ensures faults { OnEnded result (Ran (S.left input.old) (joined (map M.blocks from.old.shelves.items)) (joined (map M.blocks to.old.shelves.items)) (K.bytes output.old) (K.bytes output.new)
-        (λ script blocks lines world. RoseBy (faults_shown lines)
+        (λ script blocks lines world. RiseBy (faults_shown lines)
         (map M.faults from.old.shelves.items ++ map M.faults to.old.shelves.items) (map M.faults from.new.shelves.items ++ map M.faults to.new.shelves.items))) }
     // The answer says that the migration was given up exactly where the text does.
     ensures gave_up { OnEnded result (Ran (S.left input.old) (joined (map M.blocks from.old.shelves.items)) (joined (map M.blocks to.old.shelves.items)) (K.bytes output.old) (K.bytes output.new)
         (λ script blocks lines world. has_given_up lines ≡ is_gave_up result)) }
     // Where the output failed, a front of the text of such a run was written.
     ensures sink { OnWriteFault result (Began (S.left input.old) (joined (map M.blocks from.old.shelves.items)) (joined (map M.blocks to.old.shelves.items)) (K.bytes output.old) (K.bytes output.new)
-        (λ script blocks lines world. Complete script world × RoseBy (faults_shown lines)
+        (λ script blocks lines world. Complete script world × RiseBy (faults_shown lines)
         (map M.faults from.old.shelves.items ++ map M.faults to.old.shelves.items) (map M.faults from.new.shelves.items ++ map M.faults to.new.shelves.items))) }
     ensures before_run { OnRefused result ((K.bytes output.new ≡ K.bytes output.old)
         × (map M.blocks from.new.shelves.items ≡ map M.blocks from.old.shelves.items) × (map M.blocks to.new.shelves.items ≡ map M.blocks to.old.shelves.items)) }

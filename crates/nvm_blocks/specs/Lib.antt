@@ -1,3 +1,5 @@
 pub mod ShelfState
 pub mod Work
 pub mod Done
+pub mod Namespace
+pub mod Shelves

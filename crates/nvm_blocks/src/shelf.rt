@@ -2,8 +2,8 @@ ghost use Rattle.std.specs.Prelude.{◌≡◌, ◌+◌, ◌-◌, ◌<◌, ◌≤
 ghost use Rattle.std.specs.Borrow.{Lends, sem};
 ghost use Rattle.mig_base.specs.Count.{HasCause, RisesBy};
 ghost use Rattle.mig_medium.specs.Calls.{MovesAll, TracesAll};
-ghost use Rattle.mig_medium.specs.Medium.{Traces};
-ghost use Rattle.nvm_model.specs.declared.trace.Step.TheVariants.{Get};
+ghost use Rattle.mig_medium.specs.Medium.{with_block, Traces};
+ghost use Rattle.nvm_model.specs.declared.trace.Step.TheVariants.{Get, Put};
 ghost use Rattle.nvm_model.specs.History.{is_faulted};
 ghost use Rattle.nvm_model.specs.Piece.{block_at};
 ghost use Rattle.nvm_model.specs.Shelf.{LiesIn};
@@ -125,6 +125,29 @@ impl<M: Medium> Shelf<M> {
         ensures cause { HasCause (M.faults self.old.medium) (M.faults self.new.medium) result }
     {
         match self.medium.get(b - self.first, out) {
+            Ok(()) => Ok(()),
+            Err(Failed) => Err(Failed),
+        }
+    }
+
+    /// Writes block `b` of the namespace, which lies in the shelf, and no other.
+    ///
+    /// # Errors
+    ///
+    /// `Failed` only where the medium's count of faults rose. Every block is then as before.
+    pub fn put(&mut self, b: u32, from: &[u8; 512]) -> Result<(), Failed>
+        requires from { self.old.first ≤ b }
+        requires within { b < self.old.first + M.size self.old.medium }
+
+        ensures put { OnOk result (M.blocks self.new.medium ≡ with_block (b - self.old.first) from.now (M.blocks self.old.medium)) }
+        ensures kept { OnErr result (M.blocks self.new.medium ≡ M.blocks self.old.medium) }
+        ensures rest { IsSameButMedium self.old self.new }
+        ensures same_size { M.size self.new.medium ≡ M.size self.old.medium }
+        ensures traced { Traces (M.trace self.old.medium) (Put (b - self.old.first)) (M.trace self.new.medium) }
+        ensures moved { M.moves (M.inside self.old.medium) (Put (b - self.old.first)) (is_err result) (M.inside self.new.medium) }
+        ensures cause { HasCause (M.faults self.old.medium) (M.faults self.new.medium) result }
+    {
+        match self.medium.put(b - self.first, from) {
             Ok(()) => Ok(()),
             Err(Failed) => Err(Failed),
         }

@@ -25,7 +25,7 @@ fn make_shelf(alloc: Global, fails: u64) -> Result<Shelf<MemMedium>, Fail>
 }
 
 // Whether the window has the pages that the piece's blocks need.
-fn has_pages(p: &Piece, w: &Window) -> bool
+pub(crate) fn has_pages(p: &Piece, w: &Window) -> bool
     ensures { IsTrue result → HasPages p.now (length (data_pages w.now)) }
 {
     if !p.op.moves_data() {
@@ -65,7 +65,7 @@ fn apply(shelf: &mut Shelf<MemMedium>, p: &Piece, w: &mut Window) -> Option<Piec
 
 // Blocks of the shelf, and the same number of a command's data from block `at` on. Its first eight blocks stand in data
 // page 1, the others in data page 0.
-fn piece(op: Op, first: u32, count: u32, at: u32) -> Piece {
+pub(crate) fn piece(op: Op, first: u32, count: u32, at: u32) -> Piece {
     let lane = LaneNo::new(1).unwrap();
     Piece {
         lane,
@@ -81,7 +81,7 @@ fn piece(op: Op, first: u32, count: u32, at: u32) -> Piece {
 }
 
 // A result of a command that reads nothing.
-fn ended(outcome: Outcome) -> Option<PieceResult> {
+pub(crate) fn ended(outcome: Outcome) -> Option<PieceResult> {
     Some(PieceResult {
         outcome,
         digest: [0; 32],
@@ -89,7 +89,7 @@ fn ended(outcome: Outcome) -> Option<PieceResult> {
 }
 
 // The guest fills a block of a data page with a byte, where the window has that.
-fn fill(w: &mut Window, page: u16, block: u16, byte: u8) {
+pub(crate) fn fill(w: &mut Window, page: u16, block: u16, byte: u8) {
     if page < w.data_pages() && block < 8 {
         w.write_guest(page + 2, 512 * block, &[byte; 512]);
     }

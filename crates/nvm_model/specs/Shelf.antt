@@ -1,5 +1,6 @@
-use Rattle.std.specs.Prelude.{◌≡◌, ℕ, ◌+◌, ◌-◌, ◌*◌, ◌<◌, ◌≤◌, List, [], Option, Some, None, All, length, replicate, slice_index_or, slice_set}
+use Rattle.std.specs.Prelude.{◌≡◌, ℕ, ◌+◌, ◌-◌, ◌*◌, ◌<◌, ◌≤◌, ◌++◌, List, [], ◌∷◌, Option, Some, None, All, length, replicate, slice_index_or, slice_set}
 use Rattle.std.specs.List.{flat_map}
+use Rattle.std.specs.Option.{option_map}
 use Rattle.mig_base.specs.declared.span.Span.{Span}
 use Rattle.nvm_model.specs.declared.piece.Piece.{Piece}
 use Rattle.nvm_model.specs.declared.piece.PieceResult.{PieceResult}
@@ -29,6 +30,12 @@ LiesIn first size span = (first ≤ span.first) × (span.first + span.count ≤ 
 -- the namespace: the blocks of its shelves, one shelf after another
 abbrev pub all_blocks : List (List (List ℕ)) → List (List ℕ)
 all_blocks shelves = flat_map (λ (shelf : List (List ℕ)). shelf) shelves
+
+-- a namespace's blocks, shelf after shelf, where each shelf's are told
+abbrev pub joined : List (Option (List (List ℕ))) → Option (List (List ℕ))
+joined [] = Some []
+joined (None ∷ shelves) = None
+joined (Some blocks ∷ shelves) = option_map (λ others. blocks ++ others) (joined shelves)
 
 -- shelves of so many blocks each
 abbrev pub AreShelves : ℕ → List (List (List ℕ)) → Type 0

@@ -24,7 +24,7 @@ use Rattle.nvm_model.specs.declared.script.Script.{Script}
 use Rattle.nvm_model.specs.Check.{identifiers, opened, fetched_command, checked_command, has_bad_pages}
 use Rattle.nvm_model.specs.Event.{LaneStep, lane_number, head_of_last, phase_of, MayDo, untold_entries, submitted_by, pages_after_act}
 use Rattle.nvm_model.specs.History.{shows_fault, is_faulted}
-use Rattle.nvm_model.specs.Piece.{OutcomeFits, piece_count, pieces_left, done_blocks, blocks_after, memory_after, digest_after, after_piece}
+use Rattle.nvm_model.specs.Piece.{OutcomeFits, piece_count, piece_at, pieces_left, done_blocks, blocks_after, memory_after, digest_after, after_piece}
 use Rattle.nvm_model.specs.ScriptText.{IsSet}
 use Rattle.nvm_model.specs.World.{Lane, set_of, acts_of, IsQuiet}
 use Rattle.session.specs.declared.lane_script.LaneScript.{LaneScript}
@@ -34,7 +34,6 @@ use Rattle.session.specs.Work.{EqualsAt}
 use Rattle.session.specs.Rest.{IsServed, IsAtRest, CanEnd}
 use Rattle.nvm_cmd.specs.Check.{early_verdict, HasPassed}
 use Rattle.nvm_cmd.proofs.CheckLemmas.{stopped, passed_on, has_passed}
-use Rattle.session.proofs.WorkLemmas.{one_piece, whole_work, finished_after}
 
 -- The outcome of a piece.
 
@@ -72,32 +71,29 @@ same_or_not xs ys =
 
 -- The work of a command that was fetched.
 
--- work on blocks of the namespace, of which nothing is done
-record IsNewWork (blocks : ℕ) (work : Work) : Type 0 where
-  op : work.op ≡ Flush → ⊥
-  none_done : work.done ≡ 0
-  some : 1 ≤ work.span.count
-  within : work.span.first + work.span.count ≤ blocks
+-- work whose op has pieces
+abbrev HasPieces : Work → Type 0
+HasPieces work = work.op ≡ Flush → ⊥
 
 -- the work of a command, where it has one
-abbrev HasNewWork : ℕ → Command → Type 0
-HasNewWork blocks command = IfSome command.work (IsNewWork blocks)
+abbrev HasNewWork : Command → Type 0
+HasNewWork command = IfSome command.work HasPieces
 
 -- a command as a fetch makes it
-checked_is_new : (blocks lane : ℕ) (memory : List (List ℕ)) (running : List Command) (e : Sqe) → HasNewWork blocks (checked_command blocks lane memory running e)
+checked_is_new : (blocks lane : ℕ) (memory : List (List ℕ)) (running : List Command) (e : Sqe) → HasNewWork (checked_command blocks lane memory running e)
 checked_is_new blocks lane memory running e = by (early_verdict blocks (identifiers running) e) refl
   where
-    opens : (o : Option Op) → HasPassed blocks e → IsSomeAnd o (λ op. op ≡ Flush → ⊥) → IfSome (opened lane memory e o) (IsNewWork blocks)
-    opens None passed known = absurd known
-    opens (Some op) passed known = record { op = known; none_done = refl; some = omega arith; within = passed.within }
+    opens : (o : Option Op) → IsSomeAnd o (λ op. op ≡ Flush → ⊥) → IfSome (opened lane memory e o) HasPieces
+    opens None known = absurd known
+    opens (Some op) known = known
 
-    late : (bad : Bool) → HasPassed blocks e → HasNewWork blocks (fetched_command (cond bad (Some invalid_field) None) lane memory e)
+    late : (bad : Bool) → HasPassed blocks e → HasNewWork (fetched_command (cond bad (Some invalid_field) None) lane memory e)
     late true passed = tt
-    late false passed = opens (op_of e.opcode) passed passed.known
+    late false passed = opens (op_of e.opcode) passed.known
 
-    by : (early : Option StatusPair) → early ≡ early_verdict blocks (identifiers running) e → HasNewWork blocks (checked_command blocks lane memory running e)
-    by None is = subst (λ (v : Option StatusPair). HasNewWork blocks (fetched_command v lane memory e)) (sym (passed_on blocks lane memory (identifiers running) e is)) (late (has_bad_pages lane memory e) (has_passed blocks (identifiers running) e is))
-    by (Some status) is = subst (λ (v : Option StatusPair). HasNewWork blocks (fetched_command v lane memory e)) (sym (stopped blocks lane memory (identifiers running) e status is)) tt
+    by : (early : Option StatusPair) → early ≡ early_verdict blocks (identifiers running) e → HasNewWork (checked_command blocks lane memory running e)
+    by None is = subst (λ (v : Option StatusPair). HasNewWork (fetched_command v lane memory e)) (sym (passed_on blocks lane memory (identifiers running) e is)) (late (has_bad_pages lane memory e) (has_passed blocks (identifiers running) e is))
+    by (Some status) is = subst (λ (v : Option StatusPair). HasNewWork (fetched_command v lane memory e)) (sym (stopped blocks lane memory (identifiers running) e status is)) tt
 
 -- The events that are left.
 
@@ -155,23 +151,29 @@ ends_by_post s k blocks lane pages command rest ends some finished =
     (record { acts = rest.acts; none = refl; fetched = omega arith; posted = omega arith; reaped = omega arith; told = told_last lane.posted c lane.fetched rest.posted })
     (omega arith))
 
--- the command has its work, or none
-ends_by_work : (s : Script) (k : ℕ) (blocks : List (List ℕ)) (lane : Lane) (command : Command) → IsServed s k → IsAtRest s k lane → EndsBelow s k (ahead s k lane) →
-    lane.fetched < length lane.submitted → (w : Option Work) → command.work ≡ w → IfSome w (IsNewWork s.head.blocks) → CanEnd s k blocks (with_command lane lane.pages command)
-ends_by_work s k blocks lane command served rest ends some None is new = ends_by_post s k blocks lane lane.pages command rest ends some (rw is)
-ends_by_work s k blocks lane command served rest ends some (Some work) is new =
+-- a number of which one more is done is left one less
+left_less : (all done n : ℕ) → all - done ≡ suc n → all - (done + 1) ≡ n
+left_less all done n left = omega (arith, left)
+
+-- the command has n pieces left, which are done one after another
+ends_by_pieces : (s : Script) (k n : ℕ) (blocks : List (List ℕ)) (lane : Lane) (pages : List (List ℕ)) (command : Command) → IsAtRest s k lane → EndsBelow s k (ahead s k lane) →
+    lane.fetched < length lane.submitted → (w : Option Work) → command.work ≡ w → IfSome w HasPieces → pieces_left s.head.shelf command ≡ n → CanEnd s k blocks (with_command lane pages command)
+ends_by_pieces s k zero blocks lane pages command rest ends some w is pieces left = ends_by_post s k blocks lane pages command rest ends some left
+ends_by_pieces s k (suc n) blocks lane pages command rest ends some None is pieces left =
+    let none : pieces_left s.head.shelf command ≡ 0 = rw is in
+    absurd (omega (arith, none, left))
+ends_by_pieces s k (suc n) blocks lane pages command rest ends some (Some work) is pieces left =
     let op = work.op in
-    let first = work.span.first in
-    let count = work.span.count in
-    let piece : Piece = record { op = op; span = work.span; at = 0; pages = work.pages } in
-    let has = has_outcome op (EqualsAt piece blocks lane.pages) (λ i. same_or_not _ _) count new.op in
-    let done = done_blocks count has.outcome in
-    let digest = digest_after op first done blocks in
-    let new_blocks = blocks_after op work.pages first 0 done lane.pages blocks in
-    let memory = memory_after op work.pages first 0 done lane.pages blocks in
-    let inside : first + count ≤ s.head.shelf = omega (arith, new.within, served.one) in
-    let one : piece_count s.head.shelf work.span ≡ 1 = one_piece s.head.shelf work.span new.some inside in
-    then_end (line.Piece k command.cid first count has.outcome digest) refl
+    let span = piece_at s.head.shelf work.span work.done in
+    let at = span.first - work.span.first in
+    let piece : Piece = record { op = op; span = span; at = at; pages = work.pages } in
+    let has = has_outcome op (EqualsAt piece blocks pages) (λ i. same_or_not _ _) span.count pieces in
+    let done = done_blocks span.count has.outcome in
+    let digest = digest_after op span.first done blocks in
+    let new_blocks = blocks_after op work.pages span.first at done pages blocks in
+    let memory = memory_after op work.pages span.first at done pages blocks in
+    let more : piece_count s.head.shelf work.span - work.done ≡ suc n = subst (λ (v : Option Work). pieces_left s.head.shelf (record command { work = v }) ≡ suc n) is left in
+    then_end (line.Piece k command.cid span.first span.count has.outcome digest) refl
     (record {
       place = 0;
       command = command;
@@ -180,18 +182,17 @@ ends_by_work s k blocks lane command served rest ends some (Some work) is new =
       at_place = refl;
       earlier = λ i d h. absurd (omega arith);
       work_is = is;
-      left = omega (arith, one, new.none_done);
+      left = omega (arith, more);
       cid_is = refl;
-      does = whole_work s.head.shelf work has.outcome digest blocks lane.pages new_blocks memory new.none_done new.some inside
-          (record { fits = has.fits; digest_is = refl; blocks_is = refl; memory_is = refl });
+      does = record { first_is = refl; count_is = refl; fits = has.fits; digest_is = refl; blocks_is = refl; memory_is = refl };
       after = refl;
     })
     has.calm
-    (ends_by_post s k new_blocks lane memory (after_piece command work has.outcome) rest ends some (finished_after s.head.shelf command work has.outcome new.none_done new.some inside))
+    (ends_by_pieces s k n new_blocks lane memory (after_piece command work has.outcome) rest ends some _ refl pieces (left_less (piece_count s.head.shelf work.span) work.done n more))
 
 -- an entry is due
 ends_by_fetch : (s : Script) (k : ℕ) (blocks : List (List ℕ)) (lane : Lane) (e : Sqe) (command : Command) → IsServed s k → IsAtRest s k lane → EndsBelow s k (ahead s k lane) → lane.reaped ≡ length lane.posted →
-    lane.fetched < length lane.submitted → slice_get lane.submitted lane.fetched ≡ Some e → command ≡ checked_command s.head.blocks k lane.pages lane.running e → HasNewWork s.head.blocks command → CanEnd s k blocks lane
+    lane.fetched < length lane.submitted → slice_get lane.submitted lane.fetched ≡ Some e → command ≡ checked_command s.head.blocks k lane.pages lane.running e → HasNewWork command → CanEnd s k blocks lane
 ends_by_fetch s k blocks lane e command served rest ends reaped some oldest checked new =
     let none : length lane.running ≡ 0 = ap length rest.none in
     then_end (line.Fetch k command.cid command.status (pieces_left s.head.shelf command)) refl (
@@ -209,7 +210,7 @@ ends_by_fetch s k blocks lane e command served rest ends reaped some oldest chec
       },
     )
     refl
-    (ends_by_work s k blocks lane command served rest ends some command.work refl new)
+    (ends_by_pieces s k _ blocks lane lane.pages command rest ends some command.work refl new refl)
 
 -- a queue whose every entry was told of has room
 none_untold : (n sq : ℕ) → 2 ≤ sq → (n + sq - n % sq) % sq < sq - 1
@@ -287,5 +288,5 @@ pub can_end : (s : Script) (k : ℕ) (blocks : List (List ℕ)) (lane : Lane) �
 can_end s k blocks lane served rest = ends_below s k (ahead s k lane + 1) served blocks lane rest (omega arith)
 
 -- what a script says of a lane serves it
-pub is_served : (s : Script) (ls : LaneScript) → s.head.shelf ≡ s.head.blocks → IsLaneOf s ls → IsServed s ls.lane
-is_served s ls one is = record { set = subst IsSet is.set_is is.set_fits; one = one }
+pub is_served : (s : Script) (ls : LaneScript) → IsLaneOf s ls → IsServed s ls.lane
+is_served s ls is = record { set = subst IsSet is.set_is is.set_fits }

@@ -125,16 +125,15 @@ starts {ls = ls} ram is memory zeroed new =
 
 -- between two turns
 pub record Between (s : Script) (ls : LaneScript) (lane : Lane) : Type 0 where
-  pub shelf : s.head.shelf ≡ s.head.blocks
   pub is_lane : IsLaneOf s ls
   pub rest : IsAtRest s ls.lane lane
 
-pub between : {s : Script} {ls : LaneScript} {window : WindowState} {pair : QueuePair} {lane : Lane} → s.head.shelf ≡ s.head.blocks → IsLaneOf s ls → Stands ls s.head.burst window pair lane → pair.running.items ≡ [] → Between s ls lane
-between {s} one is stands none = record { shelf = one; is_lane = is; rest = at_rest s is stands none }
+pub between : {s : Script} {ls : LaneScript} {window : WindowState} {pair : QueuePair} {lane : Lane} → IsLaneOf s ls → Stands ls s.head.burst window pair lane → pair.running.items ≡ [] → Between s ls lane
+between {s} is stands none = record { is_lane = is; rest = at_rest s is stands none }
 
 -- its run can be brought to its end
 pub goes_to_end : (s : Script) (ls : LaneScript) (lane : Lane) → Between s ls lane → (blocks : List (List ℕ)) → CanEnd s ls.lane blocks lane
-goes_to_end s ls lane between blocks = can_end s ls.lane blocks lane (is_served s ls between.shelf between.is_lane) between.rest
+goes_to_end s ls lane between blocks = can_end s ls.lane blocks lane (is_served s ls between.is_lane) between.rest
 
 -- What a whole run is made of: turns, the lines of a move, and turns.
 

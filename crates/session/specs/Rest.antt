@@ -9,10 +9,9 @@ use Rattle.session.specs.Goes.{LaneSteps}
 
 -- The end of a run: what the guest of a lane between two turns has still to do can all be done.
 
--- what a script says of lane k, where the namespace is one shelf
+-- what a script says of lane k
 pub record IsServed (s : Script) (k : ℕ) : Type 0 where
   pub set : IsSet (set_of s.head k)
-  pub one : s.head.shelf ≡ s.head.blocks
 
 -- a lane between two turns: none of its commands is under way, and its queues are in order
 pub record IsAtRest (s : Script) (k : ℕ) (lane : Lane) : Type 0 where

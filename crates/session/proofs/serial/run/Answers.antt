@@ -12,7 +12,7 @@ returns-in-Err-clause-stopped g c =
     let s = c.args.script.now in
     let ls = c.args.ls.now in
     first_stopped (sink.bytes c.args.output.now) (sink.bytes c.write_lines.new.output) (new_lane ls.set.pages) (medium.faults c.args.from.now) (medium.faults c.args.to.now) (medium.blocks c.args.from.now) (medium.blocks c.args.to.now)
-    (fits s ls c.requires.head c.requires.lane) (between c.requires.shelf c.requires.lane (starts c.args.from_ram.now c.requires.lane c.requires.from_memory c.requires.zeroed c.requires.new) c.requires.new.running) c.in-Err.ensures.cut
+    (fits s ls c.requires.head c.requires.lane) (between c.requires.lane (starts c.args.from_ram.now c.requires.lane c.requires.from_memory c.requires.zeroed c.requires.new) c.requires.new.running) c.in-Err.ensures.cut
 
 pub returns-in-Err-run_body-clause-stopped : goal.returns-in-Err-run_body-clause-stopped
 returns-in-Err-run_body-clause-stopped g c =

@@ -20,4 +20,4 @@ returns-in-Err-clause-stopped g c =
     let ls = c.args.ls.now in
     let turned = c.in-Err.ensures.stopped (new_lane ls.set.pages) c.requires.start in
     stopped_before (medium.faults c.args.to.now) (medium.blocks c.args.from.now) (medium.blocks c.args.to.now) (medium.blocks c.run_turns.new.medium)
-    (fits s ls c.requires.head c.requires.lane) (between c.requires.shelf c.requires.lane turned.stands c.run_turns.ensures.none) turned.turned
+    (fits s ls c.requires.head c.requires.lane) (between c.requires.lane turned.stands c.run_turns.ensures.none) turned.turned

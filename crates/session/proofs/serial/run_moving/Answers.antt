@@ -18,7 +18,7 @@ returns-in-Err-clause-stopped g c =
     let ls = c.args.ls.now in
     let first = c.in-Err.ensures.stopped (new_lane ls.set.pages) c.requires.start in
     stopped_before (medium.faults c.args.to.now) (medium.blocks c.args.from.now) (medium.blocks c.args.to.now) (medium.blocks c.run_turns_before.new.medium)
-    (fits s ls c.requires.head c.requires.lane) (between c.requires.shelf c.requires.lane first.stands c.run_turns_before.ensures.none) first.turned
+    (fits s ls c.requires.head c.requires.lane) (between c.requires.lane first.stands c.run_turns_before.ensures.none) first.turned
 
 pub returns-in-Err-migrate-clause-stopped : goal.returns-in-Err-migrate-clause-stopped
 returns-in-Err-migrate-clause-stopped g c =
@@ -27,7 +27,7 @@ returns-in-Err-migrate-clause-stopped g c =
     let ls = c.args.ls.now in
     let first = c.in-Ok.ensures.turned (new_lane ls.set.pages) c.requires.start in
     stopped_moving (medium.blocks c.args.from.now) (medium.blocks c.args.to.now) (medium.blocks c.run_turns_before.new.medium)
-    (fits s ls c.requires.head c.requires.lane) c.requires.asked (between c.requires.shelf c.requires.lane first.stands c.run_turns_before.ensures.none)
+    (fits s ls c.requires.head c.requires.lane) c.requires.asked (between c.requires.lane first.stands c.run_turns_before.ensures.none)
     first.turned c.in-Err-migrate.ensures.stopped.1 c.migrate.ensures.later.0 c.migrate.ensures.later.1
 
 pub returns-in-Ok-run_turns-clause-run : goal.returns-in-Ok-run_turns-clause-run
@@ -70,7 +70,7 @@ returns-in-Err-run_turns-clause-stopped g c =
     let there = subst (λ (ram : List WindowState). Stands ls s.head.burst (window_of ram) c.run_turns_before.new.pair first.lane) (sym memory) first.stands in
     let last = c.in-Err-run_turns.ensures.stopped first.lane there in
     stopped_moved s.head.blocks (medium.blocks c.args.from.now) (medium.blocks c.args.to.now) (medium.blocks c.run_turns_before.new.medium) (medium.blocks c.migrate.new.to) (medium.blocks c.run_turns.new.medium)
-    (fits s ls c.requires.head c.requires.lane) c.requires.asked (between c.requires.shelf c.requires.lane last.stands c.run_turns.ensures.none)
+    (fits s ls c.requires.head c.requires.lane) c.requires.asked (between c.requires.lane last.stands c.run_turns.ensures.none)
     first.turned move c.migrate.ensures.later.0 c.migrate.ensures.later.1 copied sized to_sized last.turned
 
 pub returns-in-Ok-run_turns-2-clause-run : goal.returns-in-Ok-run_turns-2-clause-run
@@ -104,5 +104,5 @@ returns-in-Err-run_turns-2-clause-stopped g c =
     let later = λ (told : Option (List (List ℕ))). HasTurned false s k told (medium.faults c.migrate.new.from) first.lane (sink.bytes c.migrate.new.output)
     (medium.blocks c.run_turns-in-GaveUp.new.medium) (medium.faults c.run_turns-in-GaveUp.new.medium) last.lane (sink.bytes c.run_turns-in-GaveUp.new.output) in
     stopped_given_up (medium.blocks c.args.from.now) (medium.blocks c.args.to.now) (medium.blocks c.run_turns_before.new.medium) (medium.blocks c.run_turns-in-GaveUp.new.medium)
-    (fits s ls c.requires.head c.requires.lane) c.requires.asked (between c.requires.shelf c.requires.lane last.stands c.run_turns-in-GaveUp.ensures.none)
+    (fits s ls c.requires.head c.requires.lane) c.requires.asked (between c.requires.lane last.stands c.run_turns-in-GaveUp.ensures.none)
     first.turned move c.migrate.ensures.later.0 c.migrate.ensures.later.1 (subst later c.migrate.ensures.same_blocks last.turned)

@@ -1,0 +1,184 @@
+ghost use Rattle.std.specs.Prelude.{◌≡◌, ◌+◌, ◌-◌, ◌*◌, ◌/◌, ◌<◌, ◌≤◌, [], ◌++◌, IfErr, IfOk, IfSome, IsTrue, OnErr, OnOk, All, length, map, replicate, slice_index_or, vec_capacity, vec_len};
+ghost use Rattle.mig_base.specs.Count.{HaveCause, NeverFall, RiseBy};
+ghost use Rattle.mig_medium.specs.Medium.{with_block};
+ghost use Rattle.nvm_model.specs.History.{is_faulted};
+ghost use Rattle.nvm_model.specs.Piece.{block_at};
+ghost use Rattle.nvm_values.specs.declared.op.Op.TheVariants.{Flush, Read};
+ghost use Rattle.guest_ram.specs.Window.{data_pages};
+ghost use Rattle.nvm_blocks.specs.Namespace.{IsSameButDone, block_count, entries_of, media_of, rooms_of, told_of, with_entry};
+ghost use Rattle.nvm_blocks.specs.Work.{HasPages, HasToldEffect, IsSameButData, IsStop};
+
+mod shelves;
+
+use crate::Shelf;
+use guest_ram::Window;
+use mig_base::{Failed, OutOfMemory};
+use mig_medium::Medium;
+use nvm_model::{Piece, PieceResult};
+use shelves::{clear_all, make_shelves, take_media};
+use std::alloc::Global;
+use std::marker::Model;
+
+/// The shelves of a namespace in order, each of the same number of blocks: one array of blocks.
+#[derive(Drop)]
+pub struct Namespace<M: Medium> {
+    shelves: Vec<Shelf<M>>,
+    shelf: u32,
+
+    // Empty, with room for the media.
+    spare: Vec<M>,
+}
+
+impl<M: Medium> Model for Namespace<M> {
+    ghost use Rattle.std.specs.Prelude.{◌≡◌, ◌≤◌, [], length, vec_capacity};
+    ghost use Rattle.nvm_blocks.specs.Namespace.{NamespaceState, IsNamespace};
+
+    ghost Value = { NamespaceState M };
+
+    ghost view = { λ n. record { shelves = n.shelves.items; shelf = n.shelf } };
+
+    ghost invariant = { λ n. IsNamespace M.blocks M.size n.shelf n.shelves.items × (n.spare.items ≡ []) × (length n.shelves.items ≤ vec_capacity n.spare) };
+}
+
+impl<M: Medium> Namespace<M> {
+    /// A shelf of `shelf` blocks over each medium, in their order, with room for so many entries. There is at least one
+    /// medium, each has that many blocks, and there are at most 131,072 blocks.
+    ///
+    /// # Errors
+    ///
+    /// The media in their order, where there is no memory for the shelves.
+    pub fn make(
+        alloc: Global,
+        media: Vec<M>,
+        shelf: u32,
+        room: usize,
+    ) -> Result<Namespace<M>, Vec<M>>
+        requires large { 1 ≤ shelf }
+        requires some { 1 ≤ length media.items }
+        requires few { length media.items * shelf ≤ 131072 }
+        requires sizes { All (λ m. M.size m ≡ shelf) media.items }
+        ensures media { IfOk result (λ n. media_of n ≡ media.items) }
+        ensures shelf { IfOk result (λ n. n.shelf ≡ shelf) }
+        ensures entries { IfOk result (λ n. entries_of n ≡ replicate (length media.items) []) }
+        ensures rooms { IfOk result (λ n. rooms_of n ≡ replicate (length media.items) room) }
+        ensures back { IfErr result (λ back. back.items ≡ media.items) }
+    {
+        let mut media = media;
+        let Ok(mut shelves) = Vec::with_capacity(alloc, media.len()) else {
+            return Err(media);
+        };
+        match make_shelves(alloc, &mut media, &mut shelves, shelf, room) {
+            Ok(()) => {
+                shelves.reverse();
+                Ok(Namespace {
+                    shelves,
+                    shelf,
+                    spare: media,
+                })
+            }
+            Err(OutOfMemory) => Err(take_media(shelves, media)),
+        }
+    }
+
+    /// The number of blocks.
+    pub fn len(&self) -> u32
+        ensures value { result ≡ block_count self.now }
+        ensures told { IfSome (told_of M.blocks self.now) (λ blocks. length blocks ≡ result) }
+    {
+        self.shelves.len() as u32 * self.shelf
+    }
+
+    /// Does a piece, which has from 1 to 64 blocks, all in one shelf, and isn't a Flush. `w` is its lane's window, and
+    /// has the pages that its blocks need. The piece stops at the first call of the medium that fails and, for a
+    /// Compare, at the first block that differs. Its entry, for which its shelf has room, says how it ended.
+    pub fn apply(&mut self, p: &Piece, index: u32, ticket: u64, w: &mut Window) -> PieceResult
+        requires op { p.now.op ≡ Flush → ⊥ }
+        requires some { 1 ≤ p.now.span.count }
+        requires few { p.now.span.count ≤ 64 }
+        requires within { p.now.span.first + p.now.span.count ≤ block_count self.old }
+        requires one_shelf { p.now.span.first / self.old.shelf ≡ (p.now.span.first + p.now.span.count - 1) / self.old.shelf }
+        requires pages { HasPages p.now (length (data_pages w.old)) }
+        requires room { length (slice_index_or (entries_of self.old) (p.now.span.first / self.old.shelf) [])
+            < slice_index_or (rooms_of self.old) (p.now.span.first / self.old.shelf) 0 }
+
+        ensures effect { HasToldEffect p.now p.now.span.first result
+            (told_of M.blocks self.old) (data_pages w.old) (told_of M.blocks self.new) (data_pages w.new) }
+        ensures stops { IsStop p.now.op p.now.span.count result.outcome }
+        ensures window { IsSameButData w.old w.new }
+        ensures kept { (p.now.op ≡ Read → ⊥) → w.new ≡ w.old }
+        ensures entry { entries_of self.new
+            ≡ with_entry (p.now.span.first / self.old.shelf) (record { lane = p.now.lane; index = index; ticket = ticket; result = result }) (entries_of self.old) }
+        ensures rest { IsSameButDone M.size self.old self.new }
+        ensures later { NeverFall (map M.faults (media_of self.old)) (map M.faults (media_of self.new)) }
+        ensures cause { IsTrue (is_faulted result.outcome) → RiseBy 1 (map M.faults (media_of self.old)) (map M.faults (media_of self.new)) }
+    {
+        let shelf = &mut self.shelves[(p.span.first / self.shelf) as usize];
+        let result = shelf.apply(p, index, ticket, w);
+        result
+    }
+
+    /// Reads block `b` into `out`.
+    ///
+    /// # Errors
+    ///
+    /// `Failed` only where a count of faults rose. What `out` holds then isn't known.
+    pub fn copy_out(&mut self, b: u32, out: &mut [u8; 512]) -> Result<(), Failed>
+        requires { b < block_count self.old }
+        ensures read { OnOk result (IfSome (told_of M.blocks self.old) (λ blocks. out.new ≡ block_at blocks b)) }
+        ensures same_blocks { told_of M.blocks self.new ≡ told_of M.blocks self.old }
+        ensures rest { IsSameButDone M.size self.old self.new }
+        ensures entries { entries_of self.new ≡ entries_of self.old }
+        ensures cause { HaveCause (map M.faults (media_of self.old)) (map M.faults (media_of self.new)) result }
+    {
+        let shelf = &mut self.shelves[(b / self.shelf) as usize];
+        match shelf.copy_out(b, out) {
+            Ok(()) => Ok(()),
+            Err(Failed) => Err(Failed),
+        }
+    }
+
+    /// Writes block `b`, and no other.
+    ///
+    /// # Errors
+    ///
+    /// `Failed` only where a count of faults rose. Every block is then as before.
+    pub fn put(&mut self, b: u32, from: &[u8; 512]) -> Result<(), Failed>
+        requires { b < block_count self.old }
+        ensures put { OnOk result (told_of M.blocks self.new ≡ with_block b from.now (told_of M.blocks self.old)) }
+        ensures kept { OnErr result (told_of M.blocks self.new ≡ told_of M.blocks self.old) }
+        ensures rest { IsSameButDone M.size self.old self.new }
+        ensures entries { entries_of self.new ≡ entries_of self.old }
+        ensures cause { HaveCause (map M.faults (media_of self.old)) (map M.faults (media_of self.new)) result }
+    {
+        let shelf = &mut self.shelves[(b / self.shelf) as usize];
+        match shelf.put(b, from) {
+            Ok(()) => Ok(()),
+            Err(Failed) => Err(Failed),
+        }
+    }
+
+    /// Drops the entries of all shelves.
+    pub fn clear(&mut self)
+        ensures entries { entries_of self.new ≡ replicate (length self.old.shelves) [] }
+        ensures media { media_of self.new ≡ media_of self.old }
+        ensures rest { IsSameButDone M.size self.old self.new }
+    {
+        clear_all(&mut self.shelves);
+    }
+
+    /// The media in order, without the shelves.
+    pub fn into_media(self) -> Vec<M>
+        ensures { result.items ≡ media_of self }
+    {
+        let Namespace {
+            mut shelves,
+            spare,
+            ..
+        } = self;
+        shelves.reverse();
+        take_media(shelves, spare)
+    }
+}
+
+#[cfg(test)]
+mod tests;
