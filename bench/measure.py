@@ -16,35 +16,38 @@ TOP = os.path.dirname(os.path.dirname(os.path.abspath(__file__)))
 PACE = ["burst 64", "mix 0", "change 4", "slice 4"]
 
 
+SHELVES = 64
+
+
 def head(blocks, pages, move=None):
-    """The head of a script of one lane over one shelf, with a suspended move where a turn is given."""
+    """The head of a script of one lane over 64 shelves, with a suspended move where a turn is given."""
     small = blocks if move else 4
-    lines = ["nvmigrate script 1", f"blocks {blocks}", f"shelf {blocks}", "lanes 1"]
+    lines = ["nvmigrate script 1", f"blocks {blocks}", f"shelf {blocks // SHELVES}", "lanes 1"]
     lines += [f"lane 1 sq 64 cq 256 pages {pages}"] + PACE
     lines += [f"small {small}", "pages 2064" if move else "pages 4", "patience 8"]
     return lines + ([f"migrate {move}"] if move else [])
 
 
 def many_acts(acts):
-    """Writes and reads of one block, thirty of each before a wait."""
-    lines, cid = head(1024, 2), 0
+    """Writes and reads of one block all over 131,072 blocks, thirty of each before a wait."""
+    lines, cid = head(131072, 2), 0
     while len(lines) < acts + 12:
         if (cid + 1) % 61 == 0:
             lines.append("1 wait")
         else:
             op, page = ("write", 0) if cid % 2 == 0 else ("read", 1)
-            lines.append(f"1 submit {cid % 65536} {op} {cid % 1024} 1 {page} -")
+            lines.append(f"1 submit {cid % 65536} {op} {cid * 2047 % 131072} 1 {page} -")
         cid += 1
     return lines
 
 
 def long_transfers(commands):
-    """Writes and reads of 64 blocks by a list page, over a namespace of 65,536 blocks."""
-    lines = head(65536, 10)
+    """Writes and reads of 64 blocks by a list page over 131,072 blocks, one in 32 of them over the bound of two shelves."""
+    lines = head(131072, 10)
     lines += ["1 fill 0 5a", "1 list 9 1 2 3 4 5 6 7"]
     for i in range(commands):
         op = "write" if i % 2 == 0 else "read"
-        lines.append(f"1 submit {i % 65536} {op} {(i * 64) % 65536} 64 0 9")
+        lines.append(f"1 submit {i % 65536} {op} {(i * 64 + 32) % 131008} 64 0 9")
     return lines
 
 
@@ -56,20 +59,20 @@ def moved_blocks(blocks):
 KINDS = [
     ("acts", many_acts, [16384, 32768, 65536]),
     ("transfers of 64 blocks", long_transfers, [4096, 16384, 65534]),
-    ("blocks moved", moved_blocks, [16384, 32768, 65536]),
+    ("blocks moved", moved_blocks, [32768, 65536, 131072]),
 ]
 
 
 def measure(program, lines):
     """Seconds, peak kilobytes and exit status of one run, and the bytes of its transcript."""
-    blocks = lines[1].split()[1]
+    blocks, shelf = lines[1].split()[1], lines[2].split()[1]
     with tempfile.TemporaryDirectory() as folder:
         script, text = os.path.join(folder, "script"), os.path.join(folder, "text")
         with open(script, "w") as f:
             f.write("\n".join(lines + ["end"]) + "\n")
         with open(script) as source, open(text, "wb") as sink:
             start = time.monotonic()
-            child = subprocess.Popen([program, "run", "serial", blocks, blocks], stdin=source, stdout=sink)
+            child = subprocess.Popen([program, "run", "serial", blocks, shelf], stdin=source, stdout=sink)
             _, status, usage = os.wait4(child.pid, 0)
             seconds = time.monotonic() - start
         return seconds, usage.ru_maxrss, os.waitstatus_to_exitcode(status), os.path.getsize(text)

@@ -1,23 +1,16 @@
-use Rattle.std.proofs.Common.{◌≡◌, ℕ, ◌+◌, List, Option, [], ◌∷◌, map, replicate, get_or, slice_set, refl, sym, ap, subst, ◌∙◌}
+use Rattle.std.proofs.Common.{◌≡◌, ℕ, ◌+◌, List, [], ◌∷◌, Option, map, replicate, refl, sym, ap, subst, ◌∙◌}
 use Rattle.std.proofs.lemmas.List.{length-replicate}
 use Rattle.nvm_model.specs.Memory.{zero_page}
-use Rattle.nvm_model.specs.World.{Lane}
+use Rattle.nvm_model.specs.declared.script.Script.{Script}
+use Rattle.nvm_model.specs.World.{Lane, new_lane, set_of}
+use Rattle.nvm_blocks.specs.Namespace.{NamespaceState, media_of, told_of}
 use Rattle.guest_ram.specs.Window.{WindowState}
 use Rattle.guest_ram.specs.Ram.{windows_made, shape}
+use Rattle.session.specs.declared.ending.Ending.{Ending}
+use Rattle.session.specs.Run.{HasRun, HasStopped, IfTold, framed}
 use Rattle.session.specs.Side.{window_of}
-use Rattle.engine.specs.Ended.{Sides}
+use Rattle.engine.specs.Ended.{HasEnded, HasBroken, all_told}
 use Rattle.engine.specs.Headline.{whole_memory}
-
--- what a function says of the only element of a list
-pub only_one : {V W X : Type 0} (f : V → W) (size : V → X) (n : X) (xs : List V) (d : V) → map size xs ≡ n ∷ [] → map f xs ≡ f (get_or xs 0 d) ∷ []
-only_one f size n [] d sizes = cc
-only_one f size n (y ∷ []) d sizes = refl
-only_one f size n (y ∷ z ∷ ys) d sizes = cc
-
-pub only_set : {V W X : Type 0} (f : V → W) (size : V → X) (n : X) (xs : List V) (x : V) → map size xs ≡ n ∷ [] → map f (slice_set xs 0 x) ≡ f x ∷ []
-only_set f size n [] x sizes = cc
-only_set f size n (y ∷ []) x sizes = refl
-only_set f size n (y ∷ z ∷ ys) x sizes = cc
 
 -- the pages of the one window
 pub only_pages : (ram : List WindowState) (k n : ℕ) → shape ram ≡ (k, n) ∷ [] → whole_memory ram ≡ (window_of ram).pages ∷ []
@@ -35,20 +28,34 @@ made_memory k n ram first made =
     ap shape made ∙ ap (λ (m : ℕ). (1, m) ∷ []) (length-replicate (n + 2) zero_page) ∙ ap (λ (j : ℕ). (j, n + 2) ∷ []) (sym first)
 
 -- the facts of a run, of the first lane from its start
-pub run_is : {k : ℕ} {start begun : Lane} (P : ℕ → Lane → Type 0) → k ≡ 1 → start ≡ begun → P k start → P 1 begun
+run_is : {k : ℕ} {start begun : Lane} (P : ℕ → Lane → Type 0) → k ≡ 1 → start ≡ begun → P k start → P 1 begun
 run_is {k} {start} {begun} P first begins run = subst (λ (x : ℕ). P x begun) first (subst (λ (l : Lane). P k l) begins run)
 
--- both hosts of one shelf and one lane, before and after
-abbrev pub sides_are : {V : Type 0} (blocks : V → Option (List (List ℕ))) (faults size : V → ℕ) (n k pages : ℕ) (from to : List V) (d e new_from new_to : V) (from_ram to_ram : List WindowState) →
-    map size from ≡ n ∷ [] → map size to ≡ n ∷ [] → shape from_ram ≡ (k, pages) ∷ [] → shape to_ram ≡ (k, pages) ∷ [] →
-    Sides (record { shelves = map blocks from; faults = map faults from }) (record { shelves = map blocks to; faults = map faults to })
-    (record { shelves = map blocks (slice_set from 0 new_from); faults = map faults (slice_set from 0 new_from) }) (record { shelves = map blocks (slice_set to 0 new_to); faults = map faults (slice_set to 0 new_to) })
-    (whole_memory from_ram) (whole_memory to_ram)
-sides_are blocks faults size n k pages from to d e new_from new_to from_ram to_ram one to_one from_shape to_shape = record {
-  from_one = record { told = blocks (get_or from 0 d); count = faults (get_or from 0 d); shelves_are = only_one blocks size n from d one; faults_are = only_one faults size n from d one };
-  to_one = record { told = blocks (get_or to 0 e); count = faults (get_or to 0 e); shelves_are = only_one blocks size n to e to_one; faults_are = only_one faults size n to e to_one };
-  new_from_one = record { told = blocks new_from; count = faults new_from; shelves_are = only_set blocks size n from new_from one; faults_are = only_set faults size n from new_from one };
-  new_to_one = record { told = blocks new_to; count = faults new_to; shelves_are = only_set blocks size n to new_to to_one; faults_are = only_set faults size n to new_to to_one };
-  from_alone = record { pages = (window_of from_ram).pages; memory_is = only_pages from_ram k pages from_shape };
-  to_alone = record { pages = (window_of to_ram).pages; memory_is = only_pages to_ram k pages to_shape };
-}
+-- The lane's run over two namespaces is a run over the hosts that have their media.
+
+pub ended_is : {M : Type 0} (blocks : M → Option (List (List ℕ))) (faults : M → ℕ) (s : Script) (ending : Ending) (k n : ℕ) (start : Lane) (from to new_from new_to : NamespaceState M) (from_ram to_ram : List WindowState) (bytes new_bytes : Option (List ℕ))
+    {from_media to_media : List M} {new_from_ram new_to_ram : List WindowState} →
+    k ≡ 1 → start ≡ new_lane (set_of s.head 1).pages → media_of new_from ≡ from_media → media_of new_to ≡ to_media → from_ram ≡ new_from_ram → to_ram ≡ new_to_ram →
+    shape from_ram ≡ (k, n) ∷ [] → shape to_ram ≡ (k, n) ∷ [] →
+    IfTold (told_of blocks from) (told_of blocks to) (HasRun framed s k start ending (map faults (media_of from)) (map faults (media_of to)) bytes
+    (told_of blocks new_from) (window_of from_ram).pages (told_of blocks new_to) (window_of to_ram).pages (map faults (media_of new_from)) (map faults (media_of new_to)) new_bytes) →
+    HasEnded s ending (all_told blocks faults (media_of from)) (all_told blocks faults (media_of to)) bytes (all_told blocks faults from_media) (all_told blocks faults to_media) (whole_memory new_from_ram) (whole_memory new_to_ram) new_bytes
+ended_is {M} blocks faults s ending k n start from to new_from new_to from_ram to_ram bytes new_bytes {to_media = to_media} {new_from_ram} {new_to_ram} first begins from_is to_is from_ram_is to_ram_is from_shape to_shape run =
+    let ended = λ (from_media to_media : List M) (x y : List WindowState). HasEnded s ending (all_told blocks faults (media_of from)) (all_told blocks faults (media_of to)) bytes (all_told blocks faults from_media) (all_told blocks faults to_media) (whole_memory x) (whole_memory y) new_bytes in
+    subst (λ (m : List M). ended m to_media new_from_ram new_to_ram) from_is (subst (λ (m : List M). ended (media_of new_from) m new_from_ram new_to_ram) to_is
+    (subst (λ (r : List WindowState). ended (media_of new_from) (media_of new_to) r new_to_ram) from_ram_is (subst (λ (r : List WindowState). ended (media_of new_from) (media_of new_to) from_ram r) to_ram_is
+    (record {
+      from_alone = record { pages = (window_of from_ram).pages; memory_is = only_pages from_ram k n from_shape };
+      to_alone = record { pages = (window_of to_ram).pages; memory_is = only_pages to_ram k n to_shape };
+      run = run_is (λ (j : ℕ) (l : Lane). IfTold (told_of blocks from) (told_of blocks to) (HasRun framed s j l ending (map faults (media_of from)) (map faults (media_of to)) bytes
+          (told_of blocks new_from) (window_of from_ram).pages (told_of blocks new_to) (window_of to_ram).pages (map faults (media_of new_from)) (map faults (media_of new_to)) new_bytes)) first begins run;
+    }))))
+
+pub broken_is : {M : Type 0} (blocks : M → Option (List (List ℕ))) (faults : M → ℕ) (s : Script) (k : ℕ) (start : Lane) (from to new_from new_to : NamespaceState M) (bytes new_bytes : Option (List ℕ)) {from_media to_media : List M} →
+    k ≡ 1 → start ≡ new_lane (set_of s.head 1).pages → media_of new_from ≡ from_media → media_of new_to ≡ to_media →
+    IfTold (told_of blocks from) (told_of blocks to) (HasStopped framed s k start (map faults (media_of from)) (map faults (media_of to)) bytes (map faults (media_of new_from)) (map faults (media_of new_to)) new_bytes) →
+    HasBroken s (all_told blocks faults (media_of from)) (all_told blocks faults (media_of to)) bytes (all_told blocks faults from_media) (all_told blocks faults to_media) new_bytes
+broken_is {M} blocks faults s k start from to new_from new_to bytes new_bytes {to_media = to_media} first begins from_is to_is run =
+    let broken = λ (from_media to_media : List M). HasBroken s (all_told blocks faults (media_of from)) (all_told blocks faults (media_of to)) bytes (all_told blocks faults from_media) (all_told blocks faults to_media) new_bytes in
+    subst (λ (m : List M). broken m to_media) from_is (subst (λ (m : List M). broken (media_of new_from) m) to_is
+    (record { run = run_is (λ (j : ℕ) (l : Lane). IfTold (told_of blocks from) (told_of blocks to) (HasStopped framed s j l (map faults (media_of from)) (map faults (media_of to)) bytes (map faults (media_of new_from)) (map faults (media_of new_to)) new_bytes)) first begins run }))

@@ -1,9 +1,7 @@
-use Rattle.std.proofs.Common.{◌≡◌, ℕ, suc, ◌+◌, ◌*◌, ◌/◌, ◌≤◌, Bool, true, false, List, [], ◌∷◌, ◌++◌, Option, Some, None, length, refl, sym, ap, ◌∙◌, append-nil, arith}
+use Rattle.std.proofs.Common.{◌≡◌, ℕ, ◌/◌, Bool, true, false, List, [], ◌∷◌, ◌++◌, Option, Some, None, length, map, replicate, refl, sym, ap, ◌∙◌}
 use Rattle.std.specs.Prelude.{if◌then◌else◌, ◌==◌}
 use Rattle.std.proofs.lemmas.Bool.{eqb-true}
-use Rattle.std.proofs.lemmas.Nat.{div-mul-add}
 use Rattle.nvm_model.specs.declared.script.Script.{Script}
-use Rattle.engine.specs.Built.{IsTaken}
 use Rattle.engine.specs.Sizes.{sizes_of, first_difference, HaveSizes}
 
 -- Pairs of which the first that differs is looked for.
@@ -43,20 +41,16 @@ equal_if : (b : Bool) (rest : Option (ℕ × ℕ)) (p : ℕ × ℕ) → (if b th
 equal_if true rest p e = (refl, e)
 equal_if false rest p e = cc
 
-one_shelf : (sizes : List ℕ) (count shelf : ℕ) (others : List (ℕ × ℕ)) → count ≡ 1 → first_difference (sizes_of sizes count shelf ++ others) ≡ None → sizes ≡ shelf ∷ []
-one_shelf [] count shelf others one e =
-    let h = equal_if (length {A = ℕ} [] == count) _ (length {A = ℕ} [], count) e in
-    let same : 0 ≡ count = eqb-true 0 count h.0 in
-    cc
-one_shelf (x ∷ []) count shelf others one e =
-    let h = equal_if (length (x ∷ []) == count) _ (length (x ∷ []), count) e in
-    let first = equal_if (x == shelf) _ (x, shelf) h.1 in
-    ap (λ (n : ℕ). n ∷ []) (eqb-true x shelf first.0)
-one_shelf (x ∷ y ∷ sizes) count shelf others one e =
-    let h = equal_if (length (x ∷ y ∷ sizes) == count) _ (length (x ∷ y ∷ sizes), count) e in
-    let same : suc (suc (length sizes)) ≡ count = eqb-true (length (x ∷ y ∷ sizes)) count h.0 in
-    let never : ⊥ = omega (arith, same, one) in
-    absurd never
+all_same : (sizes : List ℕ) (shelf : ℕ) → first_difference (map (λ (size : ℕ). (size, shelf)) sizes) ≡ None → sizes ≡ replicate (length sizes) shelf
+all_same [] shelf e = refl
+all_same (x ∷ xs) shelf e =
+    let h = equal_if (x == shelf) (first_difference (map (λ (size : ℕ). (size, shelf)) xs)) (x, shelf) e in
+    ap (λ (n : ℕ). n ∷ xs) (eqb-true x shelf h.0) ∙ ap (λ (l : List ℕ). shelf ∷ l) (all_same xs shelf h.1)
+
+none_differs : (sizes : List ℕ) (count shelf : ℕ) → first_difference (sizes_of sizes count shelf) ≡ None → sizes ≡ replicate count shelf
+none_differs sizes count shelf e =
+    let h = equal_if (length sizes == count) (first_difference (map (λ (size : ℕ). (size, shelf)) sizes)) (length sizes, count) e in
+    all_same sizes shelf h.1 ∙ ap (λ (n : ℕ). replicate n shelf) (eqb-true (length sizes) count h.0)
 
 -- where none of two lists of pairs differs, none of the first does
 none_of_first : (xs ys : List (ℕ × ℕ)) → first_difference (xs ++ ys) ≡ None → first_difference xs ≡ None
@@ -65,19 +59,13 @@ none_of_first (x ∷ xs) ys e =
     let h = equal_if (x.0 == x.1) (first_difference (xs ++ ys)) x e in
     ap (λ (b : Bool). if b then first_difference xs else Some x) h.0 ∙ none_of_first xs ys h.1
 
--- hosts of the sizes of a script that is taken have one shelf, of all its blocks
-pub has_one_shelf : (s : Script) (from to : List ℕ) → IsTaken s → HaveSizes s from to → from ≡ s.head.blocks ∷ []
-has_one_shelf s from to taken same =
-    let some : 1 ≤ s.head.shelf = taken.script.head.shelf.0 in
-    let whole : s.head.blocks ≡ 1 * s.head.shelf + 0 = omega (arith, taken.built.shelf) in
-    let one : s.head.blocks / s.head.shelf ≡ 1 = ap (λ (n : ℕ). n / s.head.shelf) whole ∙ div-mul-add 1 s.head.shelf 0 some in
-    one_shelf from (s.head.blocks / s.head.shelf) s.head.shelf _ one same ∙ ap (λ (n : ℕ). n ∷ []) taken.built.shelf
+-- hosts of the sizes of a script have its shelves
+pub has_shelves : (s : Script) (from to : List ℕ) → HaveSizes s from to → from ≡ replicate (s.head.blocks / s.head.shelf) s.head.shelf
+has_shelves s from to same =
+    none_differs from (s.head.blocks / s.head.shelf) s.head.shelf (none_of_first (sizes_of from (s.head.blocks / s.head.shelf) s.head.shelf) (sizes_of to (s.head.blocks / s.head.shelf) s.head.shelf) same)
 
-pub has_one_other : (s : Script) (from to : List ℕ) → IsTaken s → HaveSizes s from to → to ≡ s.head.blocks ∷ []
-has_one_other s from to taken same =
-    let first = none_of_first (sizes_of from (s.head.blocks / s.head.shelf) s.head.shelf) (sizes_of to (s.head.blocks / s.head.shelf) s.head.shelf) same in
-    let second = sym (none_first (sizes_of from (s.head.blocks / s.head.shelf) s.head.shelf) (sizes_of to (s.head.blocks / s.head.shelf) s.head.shelf) first) ∙ same in
-    let some : 1 ≤ s.head.shelf = taken.script.head.shelf.0 in
-    let whole : s.head.blocks ≡ 1 * s.head.shelf + 0 = omega (arith, taken.built.shelf) in
-    let one : s.head.blocks / s.head.shelf ≡ 1 = ap (λ (n : ℕ). n / s.head.shelf) whole ∙ div-mul-add 1 s.head.shelf 0 some in
-    one_shelf to (s.head.blocks / s.head.shelf) s.head.shelf [] one (ap first_difference (append-nil (sizes_of to (s.head.blocks / s.head.shelf) s.head.shelf)) ∙ second) ∙ ap (λ (n : ℕ). n ∷ []) taken.built.shelf
+pub has_other_shelves : (s : Script) (from to : List ℕ) → HaveSizes s from to → to ≡ replicate (s.head.blocks / s.head.shelf) s.head.shelf
+has_other_shelves s from to same =
+    let first = sizes_of from (s.head.blocks / s.head.shelf) s.head.shelf in
+    let second = sizes_of to (s.head.blocks / s.head.shelf) s.head.shelf in
+    none_differs to (s.head.blocks / s.head.shelf) s.head.shelf (sym (none_first first second (none_of_first first second same)) ∙ same)

@@ -4,10 +4,9 @@ use Rattle.nvm_model.specs.declared.script.Script.{Script}
 use Rattle.nvm_model.specs.World.{window_pages}
 use Rattle.nvm_model.specs.ScriptText.{IsScript, script_text}
 
--- The heads that are taken: one lane, one shelf, no mixed order, and no migration but one that copies everything while
--- the guest is suspended.
+-- The heads that are taken: one lane, no mixed order, and no migration but one that copies everything while the guest
+-- is suspended.
 pub record IsBuilt (head : Head) : Type 0 where
-  pub shelf : head.shelf ≡ head.blocks
   pub lanes : head.lanes ≡ 1
   pub mix : head.mix ≡ 0
   pub moves : IfSome head.migrate (λ _. (head.small ≡ head.blocks) × (window_pages head ≤ head.pages))

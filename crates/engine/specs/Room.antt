@@ -9,6 +9,6 @@ pub record IsRoom (s : Script) (room : Room) : Type 0 where
   pub lane : room.lane.lane ≡ 1
   pub lane_of : IsLaneOf s room.lane
   pub new : IsNewPair room.lane s.head.burst room.pair
-  pub events : 512 ≤ vec_capacity room.events
+  pub events : 4608 ≤ vec_capacity room.events
   pub from_ram : room.from_ram ≡ windows_made 1 (room.lane.set.pages ∷ [])
   pub to_ram : room.to_ram ≡ windows_made 1 (room.lane.set.pages ∷ [])

@@ -59,9 +59,7 @@ fn unbuilt_line(head: &Head) -> Option<u32>
     ensures built { IfNone result (IsBuilt head.now) }
     ensures unbuilt { IfSome result (λ _. IsBuilt head.now → ⊥) }
 {
-    if head.shelf != head.blocks {
-        Some(3)
-    } else if head.lanes != 1 {
+    if head.lanes != 1 {
         Some(4)
     } else if head.mix != 0 {
         Some(7)

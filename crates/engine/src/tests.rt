@@ -7,6 +7,8 @@ use std::process::Abort;
 use std::test::Fail;
 use std::thread::Threads;
 
+mod rows;
+
 /// The sizes of the smallest run: 16 blocks in one shelf, one lane.
 const SIZES: &str = "nvmigrate script 1\nblocks 16\nshelf 16\nlanes 1\nlane 1 sq 4 cq 4 pages 2\n";
 
@@ -183,21 +185,30 @@ reap 1 4 0 00 0 1
 end
 ";
 
-/// What a call is given beside its words and its script: the blocks of each shelf of the source, and the numbers of the
-/// reads of the input, of the writes of the output, and of the destination's puts that fail.
+/// What a call is given beside its script: the words for the namespace and its shelves, the blocks of each shelf of
+/// either host, and the numbers of the reads of the input, of the writes of the output, and of the calls of either host's
+/// media that fail. These are counted in each shelf by itself.
 #[derive(Clone, Copy)]
 struct Given<'a> {
-    shelves: &'a [u32],
+    sizes: [&'a str; 2],
+    from: &'a [u32],
+    to: &'a [u32],
     failing_reads: &'a [u64],
     failing_writes: &'a [u64],
-    failing_puts: &'a [u64],
+    failing_from_gets: &'a [u64],
+    failing_from_puts: &'a [u64],
+    failing_to_puts: &'a [u64],
 }
 
 const SOUND: Given<'static> = Given {
-    shelves: &[16],
+    sizes: ["16", "16"],
+    from: &[16],
+    to: &[16],
     failing_reads: &[],
     failing_writes: &[],
-    failing_puts: &[],
+    failing_from_gets: &[],
+    failing_from_puts: &[],
+    failing_to_puts: &[],
 };
 
 /// What a call left.
@@ -217,7 +228,7 @@ fn words(alloc: Global, list: [&str; 4]) -> Result<Vec<String>, AllocError> {
     Ok(words)
 }
 
-fn joined(alloc: Global, parts: [&str; 4]) -> Result<Vec<u8>, AllocError> {
+fn joined(alloc: Global, parts: &[&str]) -> Result<Vec<u8>, AllocError> {
     let mut text = Vec::new(alloc);
     for part in parts {
         text.extend_from_slice(part.as_bytes())?;
@@ -225,12 +236,18 @@ fn joined(alloc: Global, parts: [&str; 4]) -> Result<Vec<u8>, AllocError> {
     Ok(text)
 }
 
-/// A host of media that tell traces of at most 64 steps, with the numbers of the puts that fail.
-fn host(alloc: Global, shelves: &[u32], failing_puts: &[u64]) -> Result<Host<MemMedium>, Fail> {
+/// A host of media that tell traces of at most 64 steps, with the numbers of the gets and the puts that fail.
+fn host(
+    alloc: Global,
+    shelves: &[u32],
+    failing_gets: &[u64],
+    failing_puts: &[u64],
+) -> Result<Host<MemMedium>, Fail> {
     let mut media = Vec::new(alloc);
     for blocks in shelves {
+        let gets = failing_gets.to_vec(alloc)?;
         let puts = failing_puts.to_vec(alloc)?;
-        let made = MemMedium::make(alloc, *blocks, 64, Vec::new(alloc), puts);
+        let made = MemMedium::make(alloc, *blocks, 64, gets, puts);
         media.push(made.map_err(|_| "no medium")?)?;
     }
     Ok(Host {
@@ -239,19 +256,25 @@ fn host(alloc: Global, shelves: &[u32], failing_puts: &[u64]) -> Result<Host<Mem
     })
 }
 
-/// Calls the top call with the words of the smallest run.
+/// Calls the top call.
 fn called<R: Threads + Sync>(
     rt: &R,
     alloc: Global,
     script: Vec<u8>,
     given: Given<'_>,
 ) -> Result<Left, Fail> {
-    let words = words(alloc, ["run", "serial", "16", "16"])?;
+    let [blocks, shelf] = given.sizes;
+    let words = words(alloc, ["run", "serial", blocks, shelf])?;
     let mut input = BytesSource::make(script, 4096, given.failing_reads.to_vec(alloc)?);
     let made = BytesSink::make(alloc, 4096, given.failing_writes.to_vec(alloc)?);
     let mut output = made.map_err(|_| "no sink")?;
-    let mut from = host(alloc, given.shelves, &[])?;
-    let mut to = host(alloc, &[16], given.failing_puts)?;
+    let mut from = host(
+        alloc,
+        given.from,
+        given.failing_from_gets,
+        given.failing_from_puts,
+    )?;
+    let mut to = host(alloc, given.to, &[], given.failing_to_puts)?;
     let status = nvmigrate(
         rt,
         alloc,
@@ -270,9 +293,9 @@ fn called<R: Threads + Sync>(
     })
 }
 
-/// A block of the first shelf.
-fn block_of(host: &mut Host<MemMedium>, b: u32) -> Option<[u8; 512]> {
-    let medium = host.shelves.first_mut()?;
+/// A block of a shelf.
+fn block_of(host: &mut Host<MemMedium>, shelf: usize, b: u32) -> Option<[u8; 512]> {
+    let medium = host.shelves.get_mut(shelf)?;
     let mut block = [0; 512];
     if b >= medium.len() {
         return None;
@@ -283,18 +306,18 @@ fn block_of(host: &mut Host<MemMedium>, b: u32) -> Option<[u8; 512]> {
 
 /// The whole transcript of a write that is read back, and the block that it wrote.
 fn reads_back<R: Threads + Sync + Abort>(rt: &R, alloc: Global) -> Result<(), Fail> {
-    let script = joined(alloc, [SIZES, PACE, READ_BACK, "end\n"])?;
+    let script = joined(alloc, &[SIZES, PACE, READ_BACK, "end\n"])?;
     let mut left = called(rt, alloc, script, SOUND)?;
     assert!(rt; left.status == Status::Done);
     assert!(rt; left.output.bytes() == READ_BACK_TEXT.as_bytes());
-    assert!(rt; block_of(&mut left.from, 3) == Some([0x5a; 512]));
-    assert!(rt; block_of(&mut left.from, 4) == Some([0; 512]));
+    assert!(rt; block_of(&mut left.from, 0, 3) == Some([0x5a; 512]));
+    assert!(rt; block_of(&mut left.from, 0, 4) == Some([0; 512]));
     Ok(())
 }
 
 /// Both queues wrap, and the completions tell heads and phase tags of three passes.
 fn wraps<R: Threads + Sync + Abort>(rt: &R, alloc: Global) -> Result<(), Fail> {
-    let script = joined(alloc, [NARROW, PACE, WRAPPING, "end\n"])?;
+    let script = joined(alloc, &[NARROW, PACE, WRAPPING, "end\n"])?;
     let left = called(rt, alloc, script, SOUND)?;
     assert!(rt; left.status == Status::Done);
     assert!(rt; left.output.bytes() == WRAPPING_TEXT.as_bytes());
@@ -303,18 +326,18 @@ fn wraps<R: Threads + Sync + Abort>(rt: &R, alloc: Global) -> Result<(), Fail> {
 
 /// A command past the namespace's end is fetched with its status, and none of it is done.
 fn refuses_a_range<R: Threads + Sync + Abort>(rt: &R, alloc: Global) -> Result<(), Fail> {
-    let script = joined(alloc, [SIZES, PACE, PAST_THE_END, "end\n"])?;
+    let script = joined(alloc, &[SIZES, PACE, PAST_THE_END, "end\n"])?;
     let mut left = called(rt, alloc, script, SOUND)?;
     assert!(rt; left.status == Status::Done);
     assert!(rt; left.output.bytes() == PAST_THE_END_TEXT.as_bytes());
-    assert!(rt; block_of(&mut left.from, 15) == Some([0; 512]));
+    assert!(rt; block_of(&mut left.from, 0, 15) == Some([0; 512]));
     Ok(())
 }
 
 /// A head of two lanes that has one.
 fn refuses_a_head<R: Threads + Sync + Abort>(rt: &R, alloc: Global) -> Result<(), Fail> {
     let sizes = "nvmigrate script 1\nblocks 16\nshelf 16\nlanes 2\nlane 1 sq 4 cq 4 pages 2\n";
-    let script = joined(alloc, [sizes, PACE, READ_BACK, "end\n"])?;
+    let script = joined(alloc, &[sizes, PACE, READ_BACK, "end\n"])?;
     let left = called(rt, alloc, script, SOUND)?;
     assert!(rt;
         left.status
@@ -329,7 +352,7 @@ fn refuses_a_head<R: Threads + Sync + Abort>(rt: &R, alloc: Global) -> Result<()
 
 /// The second write fails: the first line was taken. The first read fails: nothing was.
 fn tells_faults<R: Threads + Sync + Abort>(rt: &R, alloc: Global) -> Result<(), Fail> {
-    let script = joined(alloc, [SIZES, PACE, READ_BACK, "end\n"])?;
+    let script = joined(alloc, &[SIZES, PACE, READ_BACK, "end\n"])?;
     let failing = Given {
         failing_writes: &[2],
         ..SOUND
@@ -349,15 +372,15 @@ fn tells_faults<R: Threads + Sync + Abort>(rt: &R, alloc: Global) -> Result<(), 
 
 /// A shelf too few blocks, and a shelf too many.
 fn compares_sizes<R: Threads + Sync + Abort>(rt: &R, alloc: Global) -> Result<(), Fail> {
-    let script = joined(alloc, [SIZES, PACE, READ_BACK, "end\n"])?;
+    let script = joined(alloc, &[SIZES, PACE, READ_BACK, "end\n"])?;
     let small = Given {
-        shelves: &[8],
+        from: &[8],
         ..SOUND
     };
     let left = called(rt, alloc, script.clone()?, small)?;
     assert!(rt; left.status == Status::HostSize { kept: 8, asked: 16 });
     let two = Given {
-        shelves: &[16, 16],
+        from: &[16, 16],
         ..SOUND
     };
     let left = called(rt, alloc, script, two)?;
@@ -383,12 +406,12 @@ fn bounds_the_input<R: Threads + Sync + Abort>(rt: &R, alloc: Global) -> Result<
 
 /// A script without acts is moved, and given up where the destination's third put fails.
 fn moves_at_once<R: Threads + Sync + Abort>(rt: &R, alloc: Global) -> Result<(), Fail> {
-    let script = joined(alloc, [MOVE_AT_ONCE, "end\n", "", ""])?;
+    let script = joined(alloc, &[MOVE_AT_ONCE, "end\n"])?;
     let left = called(rt, alloc, script.clone()?, SOUND)?;
     assert!(rt; left.status == Status::Done);
     assert!(rt; left.output.bytes() == MOVED_AT_ONCE.as_bytes());
     let failing = Given {
-        failing_puts: &[3],
+        failing_to_puts: &[3],
         ..SOUND
     };
     let left = called(rt, alloc, script, failing)?;
@@ -404,7 +427,7 @@ fn steps_of(host: &Host<MemMedium>) -> Option<&[Step]> {
 
 /// A guest goes on at the destination: the whole transcript, what either host holds, and each call of either medium.
 fn moves_a_guest<R: Threads + Sync + Abort>(rt: &R, alloc: Global) -> Result<(), Fail> {
-    let script = joined(alloc, [SIZES, MOVING_PACE, MOVING, "end\n"])?;
+    let script = joined(alloc, &[SIZES, MOVING_PACE, MOVING, "end\n"])?;
     let mut left = called(rt, alloc, script, SOUND)?;
     assert!(rt; left.status == Status::Done);
     assert!(rt; left.output.bytes() == MOVING_TEXT.as_bytes());
@@ -419,17 +442,17 @@ fn moves_a_guest<R: Threads + Sync + Abort>(rt: &R, alloc: Global) -> Result<(),
     }
     assert!(rt; steps_of(&left.from) == Some(source.as_slice()));
     assert!(rt; steps_of(&left.to) == Some(destination.as_slice()));
-    assert!(rt; block_of(&mut left.from, 3) == Some([0x5a; 512]));
-    assert!(rt; block_of(&mut left.from, 4) == Some([0; 512]));
-    assert!(rt; block_of(&mut left.to, 3) == Some([0x5a; 512]));
-    assert!(rt; block_of(&mut left.to, 4) == Some([0x5a; 512]));
+    assert!(rt; block_of(&mut left.from, 0, 3) == Some([0x5a; 512]));
+    assert!(rt; block_of(&mut left.from, 0, 4) == Some([0; 512]));
+    assert!(rt; block_of(&mut left.to, 0, 3) == Some([0x5a; 512]));
+    assert!(rt; block_of(&mut left.to, 0, 4) == Some([0x5a; 512]));
     Ok(())
 }
 
 /// A head whose migration would take rounds is refused at its line.
 fn refuses_rounds<R: Threads + Sync + Abort>(rt: &R, alloc: Global) -> Result<(), Fail> {
     let pace = "burst 4\nmix 0\nchange 4\nslice 4\nsmall 15\npages 4\npatience 8\nmigrate 2\n";
-    let script = joined(alloc, [SIZES, pace, MOVING, "end\n"])?;
+    let script = joined(alloc, &[SIZES, pace, MOVING, "end\n"])?;
     let left = called(rt, alloc, script, SOUND)?;
     assert!(rt;
         left.status

@@ -1,13 +1,12 @@
 // The top call.
-ghost use Rattle.std.specs.Prelude.{◌≡◌, ◌+◌, ◌/◌, ◌++◌, ◌∷◌, [], None, Some, Ok, IfOk, IfErr, IfNone, IfSome, OnErr, OnOk, All, map, string_bytes, vec_capacity, ◌≤◌};
+ghost use Rattle.std.specs.Prelude.{◌≡◌, ◌≤◌, ◌/◌, ◌++◌, [], IfOk, IfErr, OnErr, map, string_bytes};
 ghost use Rattle.mig_base.specs.Count.{HasCause, RiseBy, RisesBy};
 ghost use Rattle.nvm_model.specs.History.{Complete, faults_shown, has_given_up};
 ghost use Rattle.nvm_model.specs.Shelf.{joined};
-ghost use Rattle.guest_ram.specs.Ram.{windows_made};
-ghost use Rattle.session.specs.State.{IsLaneOf, IsNewPair};
-ghost use Rattle.engine.specs.Ended.{HasBroken, HasEnded};
+ghost use Rattle.nvm_blocks.specs.Namespace.{media_of};
+ghost use Rattle.session.specs.Shelves.{IsNamespaceOf};
+ghost use Rattle.engine.specs.Ended.{HasBroken, HasEnded, OnFailed, OnNoMemory, all_told};
 ghost use Rattle.engine.specs.Room.{IsRoom};
-ghost use Rattle.session.specs.Work.{IsSized};
 ghost use Rattle.engine.specs.Built.{IsTaken, Spells};
 ghost use Rattle.engine.specs.Claims.{IsBadScript, IsHostSize, IsLong, IsReadFault, IsRefusal, IsUsage, IsWriteFault, OnEnded, OnRefused, OnWriteFault, is_gave_up};
 ghost use Rattle.engine.specs.Headline.{Began, HostsHold, Ran, whole_memory};
@@ -15,16 +14,16 @@ ghost use Rattle.engine.specs.Sizes.{HaveSizes, sizes_of, first_difference};
 ghost use Rattle.engine.specs.Words.{IsForm};
 
 use crate::Status;
-use crate::hosts::host_difference;
+use crate::hosts::{give_back, host_difference, take_namespaces};
 use crate::reading::read_script;
 use crate::room::{Room, make_room};
 use crate::words::geometry;
-use guest_ram::{Host, Ram};
-use mig_base::{Failed, Gate, Sink, Source};
+use guest_ram::Host;
+use mig_base::{Failed, Gate, OutOfMemory, Sink, Source};
 use mig_medium::Medium;
-use nvm_model::Line;
+use nvm_blocks::Namespace;
 use script::Script;
-use session::{Ending, LaneScript, QueuePair, run};
+use session::{Ending, run};
 use std::alloc::Global;
 use std::thread::Threads;
 
@@ -76,10 +75,11 @@ pub fn nvmigrate<R: Threads + Sync, S: Source, K: Sink, M: Medium + Send, G: Gat
         Ok(ready) => ready,
         Err(status) => return status,
     };
-    match run_hosts(&script, room, output, from, to) {
+    match run_hosts(alloc, &script, room, output, from, to) {
         Ok(Ending::Done) => Status::Done,
         Ok(Ending::GaveUp) => Status::GaveUp,
-        Err(Failed) => Status::WriteFault,
+        Err(Stop::NoMemory) => Status::OutOfMemory,
+        Err(Stop::Failed) => Status::WriteFault,
     }
 }
 
@@ -96,8 +96,6 @@ fn prepare<S: Source, M: Medium>(
     ensures spelled { IfOk result (λ r. Spells (S.left input.old) r.0) }
     ensures room { IfOk result (λ r. IsRoom r.0 r.1) }
     ensures sizes { IfOk result (λ r. HaveSizes r.0 (map M.size from.now.shelves.items) (map M.size to.now.shelves.items)) }
-    ensures sized { IfOk result (λ r. All (λ m. IsSized (M.blocks m) (M.size m)) from.now.shelves.items) }
-    ensures to_sized { IfOk result (λ r. All (λ m. IsSized (M.blocks m) (M.size m)) to.now.shelves.items) }
     ensures refusal { IfErr result (IsRefusal (map string_bytes words.now) (S.left input.old) (S.faults input.old) (S.faults input.new)
         (map M.size from.now.shelves.items) (map M.size to.now.shelves.items)) }
 {
@@ -123,8 +121,6 @@ fn hosts_difference<M: Medium>(script: &Script, from: &Host<M>, to: &Host<M>) ->
     requires { 1 ≤ script.now.head.shelf }
     ensures first { result ≡ first_difference (sizes_of (map M.size from.now.shelves.items) (script.now.head.blocks / script.now.head.shelf) script.now.head.shelf
         ++ sizes_of (map M.size to.now.shelves.items) (script.now.head.blocks / script.now.head.shelf) script.now.head.shelf) }
-    ensures sized { IfNone result (All (λ m. IsSized (M.blocks m) (M.size m)) from.now.shelves.items) }
-    ensures to_sized { IfNone result (All (λ m. IsSized (M.blocks m) (M.size m)) to.now.shelves.items) }
 {
     let shelf = u64::from(script.head.shelf);
     let count = u64::from(script.head.blocks) / shelf;
@@ -134,33 +130,82 @@ fn hosts_difference<M: Medium>(script: &Script, from: &Host<M>, to: &Host<M>) ->
     }
 }
 
-/// Runs the script over the hosts, from the first line to the last. Both hosts get their guests' memory.
+/// Why a run didn't come to its end.
+enum Stop {
+    /// There was no memory for the namespaces, and nothing was run.
+    NoMemory,
+    /// The sink failed.
+    Failed,
+}
+
+/// Runs the script over the hosts, from the first line to the last. Both hosts get their guests' memory, and their media
+/// back in their order.
 fn run_hosts<K: Sink, M: Medium>(
+    alloc: Global,
     script: &Script,
     room: Room,
     output: &mut K,
     from: &mut Host<M>,
     to: &mut Host<M>,
-) -> Result<Ending, Failed>
+) -> Result<Ending, Stop>
     requires taken { IsTaken script.now }
     requires room { IsRoom script.now room }
     requires sizes { HaveSizes script.now (map M.size from.old.shelves.items) (map M.size to.old.shelves.items) }
-    requires sized { All (λ m. IsSized (M.blocks m) (M.size m)) from.old.shelves.items }
-    requires to_sized { All (λ m. IsSized (M.blocks m) (M.size m)) to.old.shelves.items }
     ensures ran { IfOk result (λ ending. HasEnded script.now ending
-        (record { shelves = map M.blocks from.old.shelves.items; faults = map M.faults from.old.shelves.items })
-        (record { shelves = map M.blocks to.old.shelves.items; faults = map M.faults to.old.shelves.items }) (K.bytes output.old)
-        (record { shelves = map M.blocks from.new.shelves.items; faults = map M.faults from.new.shelves.items })
-        (record { shelves = map M.blocks to.new.shelves.items; faults = map M.faults to.new.shelves.items })
+        (all_told M.blocks M.faults from.old.shelves.items)
+        (all_told M.blocks M.faults to.old.shelves.items) (K.bytes output.old)
+        (all_told M.blocks M.faults from.new.shelves.items)
+        (all_told M.blocks M.faults to.new.shelves.items)
+        (whole_memory from.new.ram) (whole_memory to.new.ram) (K.bytes output.new)) }
+    ensures broken { IfErr result (λ stop. OnFailed stop (HasBroken script.now
+        (all_told M.blocks M.faults from.old.shelves.items)
+        (all_told M.blocks M.faults to.old.shelves.items) (K.bytes output.old)
+        (all_told M.blocks M.faults from.new.shelves.items)
+        (all_told M.blocks M.faults to.new.shelves.items) (K.bytes output.new))) }
+    ensures nothing { IfErr result (λ stop. OnNoMemory stop ((K.bytes output.new ≡ K.bytes output.old)
+        × (from.new.shelves.items ≡ from.old.shelves.items) × (to.new.shelves.items ≡ to.old.shelves.items))) }
+    ensures cause { IfErr result (λ stop. OnFailed stop (RisesBy 1 (K.faults output.old) (K.faults output.new))) }
+{
+    let (from_namespace, to_namespace) = match take_namespaces(alloc, &script.head, from, to) {
+        Ok(namespaces) => namespaces,
+        Err(OutOfMemory) => return Err(Stop::NoMemory),
+    };
+    match run_namespaces(script, room, output, from, from_namespace, to, to_namespace) {
+        Ok(ending) => Ok(ending),
+        Err(Failed) => Err(Stop::Failed),
+    }
+}
+
+/// Runs the script over the namespaces, which are taken apart afterwards.
+fn run_namespaces<K: Sink, M: Medium>(
+    script: &Script,
+    room: Room,
+    output: &mut K,
+    from: &mut Host<M>,
+    from_namespace: Namespace<M>,
+    to: &mut Host<M>,
+    to_namespace: Namespace<M>,
+) -> Result<Ending, Failed>
+    requires taken { IsTaken script.now }
+    requires room { IsRoom script.now room }
+    requires from_namespace { IsNamespaceOf script.now.head from_namespace }
+    requires to_namespace { IsNamespaceOf script.now.head to_namespace }
+    requires empty { (from.old.shelves.items ≡ []) × (to.old.shelves.items ≡ []) }
+    ensures ran { IfOk result (λ ending. HasEnded script.now ending
+        (all_told M.blocks M.faults (media_of from_namespace))
+        (all_told M.blocks M.faults (media_of to_namespace)) (K.bytes output.old)
+        (all_told M.blocks M.faults from.new.shelves.items)
+        (all_told M.blocks M.faults to.new.shelves.items)
         (whole_memory from.new.ram) (whole_memory to.new.ram) (K.bytes output.new)) }
     ensures broken { OnErr result (HasBroken script.now
-        (record { shelves = map M.blocks from.old.shelves.items; faults = map M.faults from.old.shelves.items })
-        (record { shelves = map M.blocks to.old.shelves.items; faults = map M.faults to.old.shelves.items }) (K.bytes output.old)
-        (record { shelves = map M.blocks from.new.shelves.items; faults = map M.faults from.new.shelves.items })
-        (record { shelves = map M.blocks to.new.shelves.items; faults = map M.faults to.new.shelves.items })
-        (whole_memory from.new.ram) (whole_memory to.new.ram) (K.bytes output.new)) }
+        (all_told M.blocks M.faults (media_of from_namespace))
+        (all_told M.blocks M.faults (media_of to_namespace)) (K.bytes output.old)
+        (all_told M.blocks M.faults from.new.shelves.items)
+        (all_told M.blocks M.faults to.new.shelves.items) (K.bytes output.new)) }
     ensures cause { HasCause (K.faults output.old) (K.faults output.new) result }
 {
+    let mut from_namespace = from_namespace;
+    let mut to_namespace = to_namespace;
     let Room {
         lane,
         mut pair,
@@ -170,62 +215,20 @@ fn run_hosts<K: Sink, M: Medium>(
     } = room;
     from.ram = from_ram;
     to.ram = to_ram;
-    run_lane(
+    let ended = run(
         script,
         &lane,
         &mut pair,
         &mut events,
         &mut from.ram,
-        from.shelves.as_mut_slice(),
+        &mut from_namespace,
         &mut to.ram,
-        to.shelves.as_mut_slice(),
+        &mut to_namespace,
         output,
-    )
-}
-
-/// Runs the script's one lane over the hosts' one shelf.
-fn run_lane<K: Sink, M: Medium>(
-    script: &Script,
-    lane: &LaneScript,
-    pair: &mut QueuePair,
-    events: &mut Vec<Line>,
-    from_ram: &mut Ram,
-    from: &mut [M],
-    to_ram: &mut Ram,
-    to: &mut [M],
-    output: &mut K,
-) -> Result<Ending, Failed>
-    requires taken { IsTaken script.now }
-    requires lane { (lane.now.lane ≡ 1) × IsLaneOf script.now lane.now }
-    requires new { IsNewPair lane.now script.now.head.burst pair.old }
-    requires room { 512 ≤ vec_capacity events.old }
-    requires from_ram { from_ram.old ≡ windows_made 1 (lane.now.set.pages ∷ []) }
-    requires to_ram { to_ram.old ≡ windows_made 1 (lane.now.set.pages ∷ []) }
-    requires one { map M.size from.old ≡ script.now.head.blocks ∷ [] }
-    requires to_one { map M.size to.old ≡ script.now.head.blocks ∷ [] }
-    requires sized { All (λ m. IsSized (M.blocks m) (M.size m)) from.old }
-    requires to_sized { All (λ m. IsSized (M.blocks m) (M.size m)) to.old }
-    ensures ran { IfOk result (λ ending. HasEnded script.now ending
-        (record { shelves = map M.blocks from.old; faults = map M.faults from.old }) (record { shelves = map M.blocks to.old; faults = map M.faults to.old }) (K.bytes output.old)
-        (record { shelves = map M.blocks from.new; faults = map M.faults from.new }) (record { shelves = map M.blocks to.new; faults = map M.faults to.new })
-        (whole_memory from_ram.new) (whole_memory to_ram.new) (K.bytes output.new)) }
-    ensures broken { OnErr result (HasBroken script.now
-        (record { shelves = map M.blocks from.old; faults = map M.faults from.old }) (record { shelves = map M.blocks to.old; faults = map M.faults to.old }) (K.bytes output.old)
-        (record { shelves = map M.blocks from.new; faults = map M.faults from.new }) (record { shelves = map M.blocks to.new; faults = map M.faults to.new })
-        (whole_memory from_ram.new) (whole_memory to_ram.new) (K.bytes output.new)) }
-    ensures cause { HasCause (K.faults output.old) (K.faults output.new) result }
-{
-    match run(
-        script,
-        lane,
-        pair,
-        events,
-        from_ram,
-        &mut from[0],
-        to_ram,
-        &mut to[0],
-        output,
-    ) {
+    );
+    give_back(from, from_namespace.into_media());
+    give_back(to, to_namespace.into_media());
+    match ended {
         Ok(ending) => Ok(ending),
         Err(Failed) => Err(Failed),
     }

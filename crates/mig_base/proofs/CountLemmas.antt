@@ -1,7 +1,7 @@
-use Rattle.std.proofs.Common.{ℕ, zero, suc, ◌+◌, ◌-◌, ◌^◌, ◌<◌, ◌≤◌, List, [], ◌∷◌, Bool, true, false, cond, IsTrue, length, get_or, set, refl, arith}
+use Rattle.std.proofs.Common.{ℕ, zero, suc, ◌+◌, ◌-◌, ◌^◌, ◌<◌, ◌≤◌, List, [], ◌∷◌, ◌++◌, Bool, true, false, cond, IsTrue, length, get_or, set, refl, arith}
 use Rattle.std.specs.Prelude.{All, sum}
 use Rattle.std.proofs.lemmas.List.Elements.{All-head, All-tail, All-cons}
-use Rattle.std.proofs.lemmas.List.Sums.{sum_by-cons, sum_by-set}
+use Rattle.std.proofs.lemmas.List.Sums.{sum_by-append, sum_by-cons, sum_by-set}
 use Rattle.mig_base.specs.Count.{RisesBy, NeverFall, RiseBy}
 
 -- counts that stay don't fall
@@ -62,3 +62,28 @@ rise_set n counts i count there rise below =
     at_set [] k new within m h = absurd (omega (arith, within))
     at_set (x ∷ xs) zero new within m h = All-head (λ (c : ℕ). c < m) new xs h
     at_set (x ∷ xs) (suc k) new within m h = at_set xs k new (omega (arith, within)) m (All-tail (λ (c : ℕ). c < m) x (set xs k new) h)
+
+-- Counts beside further ones.
+
+pub never_both : (a b c d : List ℕ) → NeverFall a b → NeverFall c d → NeverFall (a ++ c) (b ++ d)
+never_both [] [] c d h k = k
+never_both [] (y ∷ ys) c d h k = absurd h
+never_both (x ∷ xs) [] c d h k = absurd h
+never_both (x ∷ xs) (y ∷ ys) c d h k = (h.0, never_both xs ys c d h.1 k)
+
+below_front : (m : ℕ) (a b : List ℕ) → All (λ (count : ℕ). count < m) (a ++ b) → All (λ (count : ℕ). count < m) a
+below_front m [] b below = λ i d there. absurd (omega (arith, there))
+below_front m (x ∷ xs) b below =
+    All-cons (λ (count : ℕ). count < m) x xs (All-head (λ (count : ℕ). count < m) x (xs ++ b) below) (below_front m xs b (All-tail (λ (count : ℕ). count < m) x (xs ++ b) below))
+
+below_back : (m : ℕ) (a b : List ℕ) → All (λ (count : ℕ). count < m) (a ++ b) → All (λ (count : ℕ). count < m) b
+below_back m [] b below = below
+below_back m (x ∷ xs) b below = below_back m xs b (All-tail (λ (count : ℕ). count < m) x (xs ++ b) below)
+
+pub rise_left : (n : ℕ) (a b c : List ℕ) → RiseBy n a b → RiseBy n (a ++ c) (b ++ c)
+rise_left n a b c rise below =
+    omega (arith, rise (below_front (2 ^ 64 - 1) b c below), sum_by-append (λ (k : ℕ). k) a c, sum_by-append (λ (k : ℕ). k) b c)
+
+pub rise_right : (n : ℕ) (a b c : List ℕ) → RiseBy n a b → RiseBy n (c ++ a) (c ++ b)
+rise_right n a b c rise below =
+    omega (arith, rise (below_back (2 ^ 64 - 1) c b below), sum_by-append (λ (k : ℕ). k) c a, sum_by-append (λ (k : ℕ). k) c b)

@@ -1,4 +1,4 @@
-use Rattle.std.proofs.Common.{◌≡◌, inl, inr, add-zero, ℕ, ◌+◌, ◌<◌, ◌≤◌, List, [], ◌∷◌, ◌++◌, Option, Some, None, length, take, drop, get_or, slice_set, refl, sym, ap, subst, ◌∙◌, arith}
+use Rattle.std.proofs.Common.{◌≡◌, add-zero, ℕ, ◌+◌, ◌<◌, List, [], ◌∷◌, ◌++◌, Option, Some, None, length, take, drop, get_or, slice_set, refl, sym, ap, subst, ◌∙◌, arith}
 use Rattle.std.proofs.lemmas.List.{take_more, take_more_set, take_all, length-append}
 use Rattle.std.proofs.Math.Seq.{take-append_seam, drop-append_seam}
 use Rattle.guest_ram.specs.Ram.{all_pages, shape}
@@ -7,9 +7,11 @@ use Rattle.nvm_model.specs.declared.script.Script.{Script}
 use Rattle.nvm_model.specs.History.{faults_shown}
 use Rattle.session.specs.declared.ending.Ending.{Ending}
 use Rattle.session.specs.declared.ending.Ending.TheVariants.{Done, GaveUp}
-use Rattle.session.specs.Run.{RoseTogether, moving_lines}
+use Rattle.session.specs.Run.{moving_lines}
+use Rattle.mig_base.specs.Count.{NeverFall, RiseBy}
+use Rattle.mig_base.proofs.CountLemmas.{never_both, never_stay, rise_more, rise_none, rise_right}
 use Rattle.session.specs.Side.{AreCopied, CopiesBlock, OneRose}
-use Rattle.session.specs.Work.{IsSized}
+use Rattle.nvm_blocks.specs.Work.{IsSized}
 
 -- one element more was copied
 pub one_copied : {X : Type 0} (n : ℕ) (from to : List X) (d : X) → n < length from → n < length to → take n to ≡ take n from → take (n + 1) (slice_set to n (get_or from n d)) ≡ take (n + 1) from
@@ -21,11 +23,11 @@ none_copied None to = tt
 none_copied (Some from) None = tt
 none_copied (Some from) (Some to) = refl
 
-pub block_copied : (n size : ℕ) (from old_to to new_to : Option (List (List ℕ))) → n < size → IsSized from size → IsSized to size → AreCopied n from old_to to → CopiesBlock n from to new_to → AreCopied (n + 1) from old_to new_to
-block_copied n size None old_to to new_to there from_sized to_sized before copies = tt
-block_copied n size (Some from) None to new_to there from_sized to_sized before copies = tt
-block_copied n size (Some from) (Some old_to) None new_to there from_sized to_sized before copies = absurd before
-block_copied n size (Some from) (Some old_to) (Some to) new_to there from_sized to_sized before copies =
+pub block_copied : (n size room : ℕ) (from old_to to new_to : Option (List (List ℕ))) → n < size → n < room → IsSized from size → IsSized to room → AreCopied n from old_to to → CopiesBlock n from to new_to → AreCopied (n + 1) from old_to new_to
+block_copied n size room None old_to to new_to there has_room from_sized to_sized before copies = tt
+block_copied n size room (Some from) None to new_to there has_room from_sized to_sized before copies = tt
+block_copied n size room (Some from) (Some old_to) None new_to there has_room from_sized to_sized before copies = absurd before
+block_copied n size room (Some from) (Some old_to) (Some to) new_to there has_room from_sized to_sized before copies =
     subst (λ (t : Option (List (List ℕ))). AreCopied (n + 1) (Some from) (Some old_to) t) (sym copies) (one_copied n from to [] (omega (arith, from_sized)) (omega (arith, to_sized)) before)
 
 -- all blocks were copied
@@ -75,8 +77,17 @@ one_window (w ∷ []) k n same = length-append w.pages [] ∙ add-zero (length w
 one_window (w ∷ v ∷ ram) k n same = cc
 
 -- a move shows a fault only where one rose
-pub moves_rose : (s : Script) (k : ℕ) (ending : Ending) (from to new_from new_to : ℕ) → from ≤ new_from → to ≤ new_to → OneRose ending from to new_from new_to →
-    RoseTogether (faults_shown (moving_lines s k ending)) from to new_from new_to
-moves_rose s k Done from to new_from new_to from_later to_later rose = λ small other. omega (arith, from_later, to_later)
-moves_rose s k GaveUp from to new_from new_to from_later to_later (inl rose) = λ small other. omega (arith, from_later, to_later, rose, small)
-moves_rose s k GaveUp from to new_from new_to from_later to_later (inr rose) = λ small other. omega (arith, from_later, to_later, rose, other)
+pub moves_rose : (s : Script) (k : ℕ) (ending : Ending) (from to new_from new_to : List ℕ) → NeverFall from new_from → NeverFall to new_to → OneRose ending from to new_from new_to →
+    RiseBy (faults_shown (moving_lines s k ending)) (from ++ to) (new_from ++ new_to)
+moves_rose s k Done from to new_from new_to from_later to_later rose = rise_none (from ++ to) (new_from ++ new_to) (never_both from new_from to new_to from_later to_later)
+moves_rose s k GaveUp from to new_from new_to from_later to_later rose = rose
+
+-- counts rose that hadn't fallen before
+pub rose_after : (a b c : List ℕ) → NeverFall a b → NeverFall b c → RiseBy 1 b c → RiseBy 1 a c
+rose_after a b c first later rose = rise_more 0 1 a b c (rise_none a b first) later rose
+
+-- counts rose beside others that never fell
+pub rose_beside : (from to new_from new_to : List ℕ) → NeverFall from new_from → NeverFall to new_to → RiseBy 1 to new_to → RiseBy 1 (from ++ to) (new_from ++ new_to)
+rose_beside from to new_from new_to from_later to_later rose =
+    rose_after (from ++ to) (new_from ++ to) (new_from ++ new_to) (never_both from new_from to to from_later (never_stay to))
+    (never_both new_from new_from to new_to (never_stay new_from) to_later) (rise_right 1 to new_to new_from rose)

@@ -1,7 +1,7 @@
-use Rattle.std.proofs.Common.{◌≡◌, ℕ, ◌+◌, false, List, [], ◌∷◌, ◌++◌, Option, Some, None, refl, sym, ap, subst, ◌∙◌, append_assoc, arith, cond}
+use Rattle.std.proofs.Common.{◌≡◌, ℕ, false, List, [], ◌∷◌, ◌++◌, Option, Some, None, refl, sym, ap, subst, ◌∙◌, append_assoc, cond}
 use Rattle.std.proofs.lemmas.List.{append-nil}
 use Rattle.std.proofs.lemmas.List.Sums.{sum_by-append}
-use Rattle.mig_base.specs.Count.{RisesBy}
+use Rattle.mig_base.proofs.CountLemmas.{never_stay, never_more, rise_none, rise_more}
 use Rattle.nvm_model.specs.declared.line.Line.{Line}
 use Rattle.nvm_model.specs.declared.script.Script.{Script}
 use Rattle.nvm_model.specs.World.{Lane}
@@ -26,30 +26,27 @@ told_more s k es fs None lane (Some b) mid c new h g = absurd h
 told_more s k es fs (Some a) lane (Some b) mid None new h g = absurd g
 told_more s k es fs None lane None mid (Some c) new h g = absurd g
 
-pub rises_more : (m n a b c : ℕ) → RisesBy m a b → RisesBy n b c → RisesBy (m + n) a c
-rises_more m n a b c h g = omega arith
-
-pub goes_more : {s : Script} {k : ℕ} {a : Option (List (List ℕ))} {f : ℕ} {lane : Lane} {events : List Line} {b : Option (List (List ℕ))} {g : ℕ} {mid : Lane} {mid_events : List Line} {c : Option (List (List ℕ))} {h : ℕ} {new : Lane} {new_events : List Line} →
+pub goes_more : {s : Script} {k : ℕ} {a : Option (List (List ℕ))} {f : List ℕ} {lane : Lane} {events : List Line} {b : Option (List (List ℕ))} {g : List ℕ} {mid : Lane} {mid_events : List Line} {c : Option (List (List ℕ))} {h : List ℕ} {new : Lane} {new_events : List Line} →
     Goes s k a f lane events b g mid mid_events → Goes s k b g mid mid_events c h new new_events → Goes s k a f lane events c h new new_events
 goes_more {s} {k} {a} {f} {lane} {events} {b} {g} {mid} {mid_events} {c} {h} {new} {new_events} x y = record {
   added = x.added ++ y.added;
   events_are = y.events_are ∙ ap (λ l. l ++ y.added) x.events_are ∙ append_assoc events x.added y.added;
   steps = told_more s k x.added y.added a lane b mid c new x.steps y.steps;
-  causes = rw (sum_by-append (λ l. cond (shows_fault l) 1 0) x.added y.added) (rises_more (faults_shown x.added) (faults_shown y.added) f g h x.causes y.causes);
-  later = omega (arith, x.later, y.later);
+  causes = rw (sum_by-append (λ l. cond (shows_fault l) 1 0) x.added y.added) (rise_more (faults_shown x.added) (faults_shown y.added) f g h x.causes y.later y.causes);
+  later = never_more f g h x.later y.later;
 }
 
 pub told_none : (s : Script) (k : ℕ) (a : Option (List (List ℕ))) (lane : Lane) → ToldSteps s k a lane [] a lane
 told_none s k None lane = tt
 told_none s k (Some a) lane = (refl, refl)
 
-pub goes_none : (s : Script) (k : ℕ) (a : Option (List (List ℕ))) (f : ℕ) (lane : Lane) (events : List Line) → Goes s k a f lane events a f lane events
+pub goes_none : (s : Script) (k : ℕ) (a : Option (List (List ℕ))) (f : List ℕ) (lane : Lane) (events : List Line) → Goes s k a f lane events a f lane events
 goes_none s k a f lane events = record {
   added = [];
   events_are = sym (append-nil events);
   steps = told_none s k a lane;
-  causes = omega arith;
-  later = omega arith;
+  causes = rise_none f f (never_stay f);
+  later = never_stay f;
 }
 
 pub lane_none : (s : Script) (k : ℕ) (lane : Lane) (events : List Line) → GoesInLane s k lane events lane events
@@ -71,7 +68,7 @@ lane_one s k lane events e new h calm g = record {
     added = e ∷ [];
     events_are = refl;
     steps = told_one s k told lane e new h g;
-    causes = rw calm (omega arith);
-    later = omega arith;
+    causes = rw calm (rise_none faults faults (never_stay faults));
+    later = never_stay faults;
   };
 }

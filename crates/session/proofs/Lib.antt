@@ -10,5 +10,6 @@ pub mod RestLemmas
 pub mod StandsLemmas
 pub mod LeadsLemmas
 pub mod RunLemmas
+pub mod ShelvesLemmas
 pub mod TextLemmas
 pub mod WorkLemmas

@@ -24,13 +24,11 @@ use Rattle.nvm_model.specs.declared.script.Script.{Script}
 use Rattle.nvm_model.specs.Check.{identifiers, opened, fetched_command, checked_command, has_bad_pages}
 use Rattle.nvm_model.specs.Event.{LaneStep, lane_number, head_of_last, phase_of, MayDo, untold_entries, submitted_by, pages_after_act}
 use Rattle.nvm_model.specs.History.{shows_fault, is_faulted}
-use Rattle.nvm_model.specs.Piece.{OutcomeFits, piece_count, piece_at, pieces_left, done_blocks, blocks_after, memory_after, digest_after, after_piece}
+use Rattle.nvm_model.specs.Piece.{OutcomeFits, block_at, data_block, piece_count, piece_at, pieces_left, done_blocks, blocks_after, memory_after, digest_after, after_piece}
 use Rattle.nvm_model.specs.ScriptText.{IsSet}
 use Rattle.nvm_model.specs.World.{Lane, set_of, acts_of, IsQuiet}
 use Rattle.session.specs.declared.lane_script.LaneScript.{LaneScript}
-use Rattle.session.specs.declared.piece.Piece.{Piece}
 use Rattle.session.specs.State.{IsLaneOf}
-use Rattle.session.specs.Work.{EqualsAt}
 use Rattle.session.specs.Rest.{IsServed, IsAtRest, CanEnd}
 use Rattle.nvm_cmd.specs.Check.{early_verdict, HasPassed}
 use Rattle.nvm_cmd.proofs.CheckLemmas.{stopped, passed_on, has_passed}
@@ -166,8 +164,7 @@ ends_by_pieces s k (suc n) blocks lane pages command rest ends some (Some work) 
     let op = work.op in
     let span = piece_at s.head.shelf work.span work.done in
     let at = span.first - work.span.first in
-    let piece : Piece = record { op = op; span = span; at = at; pages = work.pages } in
-    let has = has_outcome op (EqualsAt piece blocks pages) (λ i. same_or_not _ _) span.count pieces in
+    let has = has_outcome op (λ (i : ℕ). block_at blocks (span.first + i) ≡ data_block pages work.pages (at + i)) (λ i. same_or_not _ _) span.count pieces in
     let done = done_blocks span.count has.outcome in
     let digest = digest_after op span.first done blocks in
     let new_blocks = blocks_after op work.pages span.first at done pages blocks in

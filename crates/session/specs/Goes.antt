@@ -1,5 +1,5 @@
-use Rattle.std.specs.Prelude.{◌≡◌, ℕ, ◌≤◌, List, [], ◌∷◌, ◌++◌, Option, Some, None}
-use Rattle.mig_base.specs.Count.{RisesBy}
+use Rattle.std.specs.Prelude.{◌≡◌, ℕ, List, [], ◌∷◌, ◌++◌, Option, Some, None}
+use Rattle.mig_base.specs.Count.{NeverFall, RiseBy}
 use Rattle.nvm_model.specs.declared.line.Line.{Line}
 use Rattle.nvm_model.specs.declared.script.Script.{Script}
 use Rattle.nvm_model.specs.World.{Lane}
@@ -21,14 +21,14 @@ ToldSteps s k None lane es None new = Unit {0}
 ToldSteps s k (Some blocks) lane es None new = ⊥
 ToldSteps s k None lane es (Some new_blocks) new = ⊥
 
--- From told blocks, a count of the medium's faults, a lane and a turn's events so far to those after.
-pub record Goes (s : Script) (k : ℕ) (told : Option (List (List ℕ))) (faults : ℕ) (lane : Lane) (events : List Line) (new_told : Option (List (List ℕ))) (new_faults : ℕ) (new : Lane) (new_events : List Line) : Type 0 where
+-- From told blocks, the counts of the media's faults, a lane and a turn's events so far to those after.
+pub record Goes (s : Script) (k : ℕ) (told : Option (List (List ℕ))) (faults : List ℕ) (lane : Lane) (events : List Line) (new_told : Option (List (List ℕ))) (new_faults : List ℕ) (new : Lane) (new_events : List Line) : Type 0 where
   pub added : List Line
   pub events_are : new_events ≡ events ++ added
   pub steps : ToldSteps s k told lane added new_told new
-  pub causes : RisesBy (faults_shown added) faults new_faults
-  pub later : faults ≤ new_faults
+  pub causes : RiseBy (faults_shown added) faults new_faults
+  pub later : NeverFall faults new_faults
 
 -- the same of a part that touches no block
 pub record GoesInLane (s : Script) (k : ℕ) (lane : Lane) (events : List Line) (new : Lane) (new_events : List Line) : Type 0 where
-  pub each : (told : Option (List (List ℕ))) (faults : ℕ) → Goes s k told faults lane events told faults new new_events
+  pub each : (told : Option (List (List ℕ))) (faults : List ℕ) → Goes s k told faults lane events told faults new new_events

@@ -48,7 +48,7 @@ with_completion ls command pair lane = record lane {
 }
 
 -- a whole turn leads from a lane to one for which the window and the queue pair stand afterwards
-pub record TurnsTo (s : Script) (ls : LaneScript) (lane : Lane) (told : Option (List (List ℕ))) (faults : ℕ) (new_told : Option (List (List ℕ))) (new_faults : ℕ) (window : WindowState) (pair : QueuePair) (events : List Line) : Type 0 where
+pub record TurnsTo (s : Script) (ls : LaneScript) (lane : Lane) (told : Option (List (List ℕ))) (faults : List ℕ) (new_told : Option (List (List ℕ))) (new_faults : List ℕ) (window : WindowState) (pair : QueuePair) (events : List Line) : Type 0 where
   pub new : Lane
   pub stands : Stands ls s.head.burst window pair new
   pub goes : Goes s ls.lane told faults lane [] new_told new_faults new events

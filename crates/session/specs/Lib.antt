@@ -8,3 +8,4 @@ pub mod State
 pub mod Leads
 pub mod Takes
 pub mod Work
+pub mod Shelves

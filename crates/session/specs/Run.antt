@@ -1,6 +1,6 @@
-use Rattle.std.specs.Prelude.{◌≡◌, ℕ, ◌+◌, ◌-◌, ◌^◌, ◌<◌, ◌≤◌, Bool, false, List, [], ◌∷◌, ◌++◌, Option, Some, None, length}
+use Rattle.std.specs.Prelude.{◌≡◌, ℕ, ◌+◌, Bool, false, List, [], ◌∷◌, ◌++◌, Option, Some, None, length}
 use Rattle.std.specs.List.{AllByRecursion}
-use Rattle.mig_base.specs.Count.{RisesBy}
+use Rattle.mig_base.specs.Count.{NeverFall, RiseBy}
 use Rattle.mig_base.specs.Stream.{with_more}
 use Rattle.nvm_model.specs.declared.line.Line.{Line}
 use Rattle.nvm_model.specs.declared.line.Line.TheVariants as line
@@ -20,20 +20,20 @@ use Rattle.session.specs.Written.{IsCut, IsWritten}
 
 -- Turns of one lane on one host: their events, whose lines were written, all or a front of them, and what the events
 -- made of the lane and of the medium's told blocks.
-pub record HasTurned (whole : Bool) (s : Script) (k : ℕ) (start_told : Option (List (List ℕ))) (start_faults : ℕ) (start : Lane) (start_bytes : Option (List ℕ)) (told : Option (List (List ℕ))) (faults : ℕ) (lane : Lane) (bytes : Option (List ℕ)) : Type 0 where
+pub record HasTurned (whole : Bool) (s : Script) (k : ℕ) (start_told : Option (List (List ℕ))) (start_faults : List ℕ) (start : Lane) (start_bytes : Option (List ℕ)) (told : Option (List (List ℕ))) (faults : List ℕ) (lane : Lane) (bytes : Option (List ℕ)) : Type 0 where
   pub events : List Line
   pub text : IsWritten whole (text_of events) start_bytes bytes
   pub steps : ToldSteps s k start_told start events told lane
-  pub causes : RisesBy (faults_shown events) start_faults faults
-  pub later : start_faults ≤ faults
+  pub causes : RiseBy (faults_shown events) start_faults faults
+  pub later : NeverFall start_faults faults
 
 -- the same from the lane for which a window and a queue pair stood, to one for which they stand afterwards
-pub record TurnedTo (whole : Bool) (s : Script) (ls : LaneScript) (start_told : Option (List (List ℕ))) (start_faults : ℕ) (start : Lane) (start_bytes : Option (List ℕ)) (told : Option (List (List ℕ))) (faults : ℕ) (window : WindowState) (pair : QueuePair) (bytes : Option (List ℕ)) : Type 0 where
+pub record TurnedTo (whole : Bool) (s : Script) (ls : LaneScript) (start_told : Option (List (List ℕ))) (start_faults : List ℕ) (start : Lane) (start_bytes : Option (List ℕ)) (told : Option (List (List ℕ))) (faults : List ℕ) (window : WindowState) (pair : QueuePair) (bytes : Option (List ℕ)) : Type 0 where
   pub lane : Lane
   pub stands : Stands ls s.head.burst window pair lane
   pub turned : HasTurned whole s ls.lane start_told start_faults start start_bytes told faults lane bytes
 
-abbrev pub Turns : Bool → Script → LaneScript → Option (List (List ℕ)) → ℕ → WindowState → QueuePair → Option (List ℕ) → Option (List (List ℕ)) → ℕ → WindowState → QueuePair → Option (List ℕ) → Type 0
+abbrev pub Turns : Bool → Script → LaneScript → Option (List (List ℕ)) → List ℕ → WindowState → QueuePair → Option (List ℕ) → Option (List (List ℕ)) → List ℕ → WindowState → QueuePair → Option (List ℕ) → Type 0
 Turns whole s ls told faults window pair bytes new_told new_faults new_window new_pair new_bytes =
     (lane : Lane) → Stands ls s.head.burst window pair lane → TurnedTo whole s ls told faults lane bytes new_told new_faults new_window new_pair new_bytes
 
@@ -79,10 +79,6 @@ SidesHold memory (Some turn) Done mid_blocks mid blocks lane from_told from_memo
 SidesHold memory (Some turn) GaveUp mid_blocks mid blocks lane from_told from_memory to_told to_memory = (from_told ≡ Some blocks) × (from_memory ≡ memory lane)
 SidesHold memory None ending mid_blocks mid blocks lane from_told from_memory to_told to_memory = (from_told ≡ Some blocks) × (from_memory ≡ memory lane)
 
--- two counts of faults that rose by n or more together, as far as they hadn't reached their types' ends
-abbrev pub RoseTogether : ℕ → ℕ → ℕ → ℕ → ℕ → Type 0
-RoseTogether n from to new_from new_to = new_from < 2 ^ 64 - 1 → new_to < 2 ^ 64 - 1 → n + from + to ≤ new_from + new_to
-
 abbrev pub unframed : List Line → List Line
 unframed body = body
 
@@ -98,26 +94,26 @@ IfTold (Some blocks) None P = Unit {0}
 
 -- A run that came to its end: its lines in that frame were written, the sides hold what it led to, and each fault that
 -- a line shows has a failed call.
-pub record HasRun (frame : List Line → List Line) (s : Script) (k : ℕ) (start : Lane) (ending : Ending) (start_from start_to : ℕ) (start_bytes : Option (List ℕ)) (from_told : Option (List (List ℕ))) (from_memory : List (List ℕ)) (to_told : Option (List (List ℕ))) (to_memory : List (List ℕ)) (from_faults to_faults : ℕ) (bytes : Option (List ℕ)) (blocks : List (List ℕ)) : Type 0 where
+pub record HasRun (frame : List Line → List Line) (s : Script) (k : ℕ) (start : Lane) (ending : Ending) (start_from start_to : List ℕ) (start_bytes : Option (List ℕ)) (from_told : Option (List (List ℕ))) (from_memory : List (List ℕ)) (to_told : Option (List (List ℕ))) (to_memory : List (List ℕ)) (from_faults to_faults : List ℕ) (bytes : Option (List ℕ)) (blocks : List (List ℕ)) : Type 0 where
   pub run : WholeRun s k blocks start ending
   pub lines : AllByRecursion IsLine (frame (body_of s k blocks start ending run))
   pub text : bytes ≡ with_more (text_of (frame (body_of s k blocks start ending run))) start_bytes
   pub holds : SidesHold (lane_window s.head k) s.head.migrate ending run.mid_blocks run.mid run.new_blocks run.new from_told from_memory to_told to_memory
-  pub causes : RoseTogether (faults_shown (body_of s k blocks start ending run)) start_from start_to from_faults to_faults
+  pub causes : RiseBy (faults_shown (body_of s k blocks start ending run)) (start_from ++ start_to) (from_faults ++ to_faults)
 
 -- A run that stopped where the sink failed: a front of the lines of a whole run was written.
-pub record HasStopped (frame : List Line → List Line) (s : Script) (k : ℕ) (start : Lane) (start_from start_to : ℕ) (start_bytes : Option (List ℕ)) (from_faults to_faults : ℕ) (bytes : Option (List ℕ)) (blocks : List (List ℕ)) : Type 0 where
+pub record HasStopped (frame : List Line → List Line) (s : Script) (k : ℕ) (start : Lane) (start_from start_to : List ℕ) (start_bytes : Option (List ℕ)) (from_faults to_faults : List ℕ) (bytes : Option (List ℕ)) (blocks : List (List ℕ)) : Type 0 where
   pub ending : Ending
   pub run : WholeRun s k blocks start ending
   pub lines : AllByRecursion IsLine (frame (body_of s k blocks start ending run))
   pub text : IsCut (text_of (frame (body_of s k blocks start ending run))) start_bytes bytes
-  pub causes : RoseTogether (faults_shown (body_of s k blocks start ending run)) start_from start_to from_faults to_faults
+  pub causes : RiseBy (faults_shown (body_of s k blocks start ending run)) (start_from ++ start_to) (from_faults ++ to_faults)
 
 -- A move of the guest that was begun: its lines were written, all or a front of them.
-pub record HasMoved (whole : Bool) (s : Script) (k : ℕ) (ending : Ending) (start_from start_to : ℕ) (start_bytes : Option (List ℕ)) (from_faults to_faults : ℕ) (bytes : Option (List ℕ)) : Type 0 where
+pub record HasMoved (whole : Bool) (s : Script) (k : ℕ) (ending : Ending) (start_from start_to : List ℕ) (start_bytes : Option (List ℕ)) (from_faults to_faults : List ℕ) (bytes : Option (List ℕ)) : Type 0 where
   pub text : IsWritten whole (text_of (moving_lines s k ending)) start_bytes bytes
-  pub causes : RoseTogether (faults_shown (moving_lines s k ending)) start_from start_to from_faults to_faults
+  pub causes : RiseBy (faults_shown (moving_lines s k ending)) (start_from ++ start_to) (from_faults ++ to_faults)
 
-abbrev pub HasStoppedMoving : Script → ℕ → ℕ → ℕ → Option (List ℕ) → ℕ → ℕ → Option (List ℕ) → Type 0
+abbrev pub HasStoppedMoving : Script → ℕ → List ℕ → List ℕ → Option (List ℕ) → List ℕ → List ℕ → Option (List ℕ) → Type 0
 HasStoppedMoving s k start_from start_to start_bytes from_faults to_faults bytes =
     (ending : Ending) × HasMoved false s k ending start_from start_to start_bytes from_faults to_faults bytes

@@ -1,5 +1,5 @@
-use Rattle.std.specs.Prelude.{◌≡◌, ◌⊎◌, ℕ, ◌+◌, List, [], ◌∷◌, Option, Some, None, length, slice_index_or, slice_set, take}
-use Rattle.mig_base.specs.Count.{RisesBy}
+use Rattle.std.specs.Prelude.{◌≡◌, ◌++◌, ℕ, ◌+◌, List, [], ◌∷◌, Option, Some, None, length, slice_index_or, slice_set, take}
+use Rattle.mig_base.specs.Count.{RiseBy}
 use Rattle.guest_ram.specs.Ram.{shape}
 use Rattle.nvm_model.specs.Memory.{page_at}
 use Rattle.guest_ram.specs.Window.{WindowState, no_window}
@@ -43,6 +43,6 @@ IfMoved Done claim = claim
 IfMoved GaveUp claim = Unit {0}
 
 -- a migration is given up only where a call of a medium failed
-abbrev pub OneRose : Ending → ℕ → ℕ → ℕ → ℕ → Type 0
+abbrev pub OneRose : Ending → List ℕ → List ℕ → List ℕ → List ℕ → Type 0
 OneRose Done from to new_from new_to = Unit {0}
-OneRose GaveUp from to new_from new_to = RisesBy 1 from new_from ⊎ RisesBy 1 to new_to
+OneRose GaveUp from to new_from new_to = RiseBy 1 (from ++ to) (new_from ++ new_to)

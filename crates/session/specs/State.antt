@@ -9,6 +9,7 @@ use Rattle.nvm_model.specs.declared.command.Work.{Work}
 use Rattle.nvm_model.specs.declared.script.Script.{Script}
 use Rattle.nvm_model.specs.Event.{head_of_last, phase_of, untold_entries}
 use Rattle.nvm_model.specs.Memory.{page_at}
+use Rattle.nvm_model.specs.Check.{pages_needed}
 use Rattle.nvm_model.specs.Piece.{page_of}
 use Rattle.nvm_model.specs.Ring.{IsSqRing, IsCqPage, completion_entry, cq_page, places_between, sq_page}
 use Rattle.nvm_model.specs.ScriptText.{IsSet, IsAct}
@@ -125,13 +126,15 @@ HasEvent Done before after = after ≡ before + 1
 HasEvent Idled before after = after ≡ before + 1
 HasEvent NotYet before after = after ≡ before
 
--- work that a command has still to do: on blocks of the namespace, and on data pages that are there
+-- work that a command has still to do: on blocks of the namespace, and where it moves data on as many data pages as these
+-- need, all of which are there
 pub record IsWork (blocks pages : ℕ) (work : Work) : Type 0 where
   pub op : work.op ≡ Flush → ⊥
   pub none_done : work.done ≡ 0
   pub some : 1 ≤ work.span.count
   pub few : work.span.count ≤ 64
   pub within : work.span.first + work.span.count ≤ blocks
+  pub used : IsTrue (moves_data work.op) → work.pages.used ≡ pages_needed work.span.count
   pub there : IsTrue (moves_data work.op) → (i : ℕ) → i < work.span.count → page_of work.pages i < pages
 
 -- a command that was fetched in this turn

@@ -18,8 +18,9 @@ use crate::check::check;
 use crate::{LaneScript, QueuePair};
 use guest_ram::Window;
 use mig_base::LaneNo;
+use nvm_cmd::finish;
 use nvm_model::{Command, Line, Script};
-use nvm_values::{Cqe, Sqe};
+use nvm_values::Sqe;
 
 /// Fetches commands until as many were fetched as a turn allows, none is left, or the completion queue has no room for
 /// another completion. The guest has reaped all completions.
@@ -185,7 +186,8 @@ fn put_completion(lane: LaneNo, command: &Command, window: &mut Window, pair: &m
     let place = pair.cq.state().tail;
     let head = pair.sq.state().head;
     let mut page = *window.page(1);
-    if let Ok(()) = pair.cq.post(&mut page, &completion(lane, command, head)) {
+    let entry = finish(command.cid, lane, command.status, head);
+    if let Ok(()) = pair.cq.post(&mut page, &entry) {
         keep_completion(place, &page, window);
     }
 }
@@ -200,22 +202,4 @@ fn keep_completion(place: u16, page: &[u8; 4096], window: &mut Window)
     let at = 16 * place;
     let from = usize::from(at);
     window.write_ctrl(1, at, &page[from..from + 16]);
-}
-
-/// A command's completion, by its lane's queue pair. The ring gives it its phase tag.
-fn completion(lane: LaneNo, command: &Command, head: u16) -> Cqe
-    ensures { result ≡ record { dw0 = 0; dw1 = 0; sqhd = head; sqid = lane; cid = command.now.cid; phase = false; status = command.now.status; mid = 0; more = false; dnr = false } }
-{
-    Cqe {
-        dw0: 0,
-        dw1: 0,
-        sqhd: head,
-        sqid: u16::from(lane.get()),
-        cid: command.cid,
-        phase: false,
-        status: command.status,
-        mid: 0,
-        more: false,
-        dnr: false,
-    }
 }

@@ -1,13 +1,14 @@
 // The cutover of a suspended move: while nothing runs, every block and every window page goes to the destination.
-ghost use Rattle.std.specs.Prelude.{◌≡◌, ◌+◌, ◌<◌, ◌≤◌, ◌⊎◌, ◌∷◌, [], true, false, IfOk, OnErr, OnOk, length};
-ghost use Rattle.mig_base.specs.Count.{HasCause, RisesBy};
+ghost use Rattle.std.specs.Prelude.{◌≡◌, ◌+◌, ◌<◌, ◌≤◌, ◌++◌, ◌∷◌, [], true, false, IfOk, OnErr, OnOk, length, map};
+ghost use Rattle.mig_base.specs.Count.{HasCause, NeverFall, RiseBy};
 ghost use Rattle.mig_base.specs.Stream.{with_more};
 ghost use Rattle.nvm_model.specs.Text.{text_of};
 ghost use Rattle.guest_ram.specs.Ram.{shape};
 ghost use Rattle.session.specs.Run.{HasMoved, HasStoppedMoving, ending_lines};
 ghost use Rattle.session.specs.Side.{AreCopied, CopiesBlock, HasMemory, IfMoved, OneRose};
 ghost use Rattle.session.specs.State.{IsLaneOf};
-ghost use Rattle.session.specs.Work.{IsSized};
+ghost use Rattle.nvm_blocks.specs.Namespace.{block_count, media_of, told_of};
+ghost use Rattle.session.specs.Shelves.{IsNamespaceOf, SameShelves};
 ghost use Rattle.session.specs.Written.{IsCut};
 
 use crate::lines::write_lines;
@@ -15,6 +16,7 @@ use crate::{Ending, LaneScript};
 use guest_ram::Ram;
 use mig_base::{Failed, Sink};
 use mig_medium::Medium;
+use nvm_blocks::Namespace;
 use nvm_model::{Line, Script};
 use transcript::LineBuf;
 
@@ -27,29 +29,29 @@ pub(crate) fn migrate<K: Sink, M: Medium>(
     script: &Script,
     ls: &LaneScript,
     from_ram: &Ram,
-    from: &mut M,
+    from: &mut Namespace<M>,
     to_ram: &mut Ram,
-    to: &mut M,
+    to: &mut Namespace<M>,
     buf: &mut LineBuf,
     output: &mut K,
 ) -> Result<Ending, Failed>
     requires lane { IsLaneOf script.now ls.now }
     requires from_memory { HasMemory ls.now from_ram.now }
     requires to_memory { HasMemory ls.now to_ram.old }
-    requires from_size { (M.size from.old ≡ script.now.head.blocks) × IsSized (M.blocks from.old) (M.size from.old) }
-    requires to_size { (M.size to.old ≡ script.now.head.blocks) × IsSized (M.blocks to.old) (M.size to.old) }
+    requires from_namespace { IsNamespaceOf script.now.head from.old }
+    requires to_namespace { IsNamespaceOf script.now.head to.old }
 
-    ensures moved { IfOk result (λ ending. HasMoved true script.now ls.now.lane ending (M.faults from.old) (M.faults to.old) (K.bytes output.old)
-        (M.faults from.new) (M.faults to.new) (K.bytes output.new)) }
-    ensures stopped { OnErr result (HasStoppedMoving script.now ls.now.lane (M.faults from.old) (M.faults to.old) (K.bytes output.old)
-        (M.faults from.new) (M.faults to.new) (K.bytes output.new)) }
-    ensures blocks { IfOk result (λ ending. IfMoved ending (AreCopied script.now.head.blocks (M.blocks from.old) (M.blocks to.old) (M.blocks to.new))) }
+    ensures moved { IfOk result (λ ending. HasMoved true script.now ls.now.lane ending (map M.faults (media_of from.old)) (map M.faults (media_of to.old)) (K.bytes output.old)
+        (map M.faults (media_of from.new)) (map M.faults (media_of to.new)) (K.bytes output.new)) }
+    ensures stopped { OnErr result (HasStoppedMoving script.now ls.now.lane (map M.faults (media_of from.old)) (map M.faults (media_of to.old)) (K.bytes output.old)
+        (map M.faults (media_of from.new)) (map M.faults (media_of to.new)) (K.bytes output.new)) }
+    ensures blocks { IfOk result (λ ending. IfMoved ending (AreCopied script.now.head.blocks (told_of M.blocks from.old) (told_of M.blocks to.old) (told_of M.blocks to.new))) }
     ensures memory { IfOk result (λ ending. IfMoved ending (to_ram.new ≡ from_ram.now)) }
-    ensures same_blocks { M.blocks from.new ≡ M.blocks from.old }
-    ensures from_size { M.size from.new ≡ M.size from.old }
-    ensures to_size { (M.size to.new ≡ M.size to.old) × IsSized (M.blocks to.new) (M.size to.new) }
+    ensures same_blocks { told_of M.blocks from.new ≡ told_of M.blocks from.old }
+    ensures from_namespace { SameShelves from.old from.new }
+    ensures to_namespace { SameShelves to.old to.new }
     ensures to_memory { HasMemory ls.now to_ram.new }
-    ensures later { (M.faults from.old ≤ M.faults from.new) × (M.faults to.old ≤ M.faults to.new) }
+    ensures later { (NeverFall (map M.faults (media_of from.old)) (map M.faults (media_of from.new))) × (NeverFall (map M.faults (media_of to.old)) (map M.faults (media_of to.new))) }
     ensures cause { HasCause (K.faults output.old) (K.faults output.new) result }
 {
     match write_lines(&[Line::Migrate, Line::Suspend], buf, output) {
@@ -86,19 +88,22 @@ fn write_ending<K: Sink>(
 }
 
 /// Copies every block and every window page, each once, ascending, until a call of a medium fails.
-fn copy_all<M: Medium>(from_ram: &Ram, from: &mut M, to_ram: &mut Ram, to: &mut M) -> Ending
+fn copy_all<M: Medium>(
+    from_ram: &Ram,
+    from: &mut Namespace<M>,
+    to_ram: &mut Ram,
+    to: &mut Namespace<M>,
+) -> Ending
     requires shapes { shape to_ram.old ≡ shape from_ram.now }
-    requires sizes { M.size to.old ≡ M.size from.old }
-    requires from_sized { IsSized (M.blocks from.old) (M.size from.old) }
-    requires to_sized { IsSized (M.blocks to.old) (M.size to.old) }
-    ensures blocks { IfMoved result (AreCopied (M.size from.old) (M.blocks from.old) (M.blocks to.old) (M.blocks to.new)) }
+    requires sizes { block_count to.old ≡ block_count from.old }
+    ensures blocks { IfMoved result (AreCopied (block_count from.old) (told_of M.blocks from.old) (told_of M.blocks to.old) (told_of M.blocks to.new)) }
     ensures memory { IfMoved result (to_ram.new ≡ from_ram.now) }
     ensures shapes { shape to_ram.new ≡ shape to_ram.old }
-    ensures same_blocks { M.blocks from.new ≡ M.blocks from.old }
-    ensures from_size { M.size from.new ≡ M.size from.old }
-    ensures to_size { (M.size to.new ≡ M.size to.old) × IsSized (M.blocks to.new) (M.size to.new) }
-    ensures rose { OneRose result (M.faults from.old) (M.faults to.old) (M.faults from.new) (M.faults to.new) }
-    ensures later { (M.faults from.old ≤ M.faults from.new) × (M.faults to.old ≤ M.faults to.new) }
+    ensures same_blocks { told_of M.blocks from.new ≡ told_of M.blocks from.old }
+    ensures from_namespace { SameShelves from.old from.new }
+    ensures to_namespace { SameShelves to.old to.new }
+    ensures rose { OneRose result (map M.faults (media_of from.old)) (map M.faults (media_of to.old)) (map M.faults (media_of from.new)) (map M.faults (media_of to.new)) }
+    ensures later { (NeverFall (map M.faults (media_of from.old)) (map M.faults (media_of from.new))) × (NeverFall (map M.faults (media_of to.old)) (map M.faults (media_of to.new))) }
 {
     match copy_blocks(from, to) {
         Ok(()) => {
@@ -114,19 +119,19 @@ fn copy_all<M: Medium>(from_ram: &Ram, from: &mut M, to_ram: &mut Ram, to: &mut 
 /// # Errors
 ///
 /// `Failed` only where the count of faults of one of the media rose.
-fn copy_blocks<M: Medium>(from: &mut M, to: &mut M) -> Result<(), Failed>
-    requires sizes { M.size to.old ≡ M.size from.old }
-    requires from_sized { IsSized (M.blocks from.old) (M.size from.old) }
-    requires to_sized { IsSized (M.blocks to.old) (M.size to.old) }
-    ensures copied { OnOk result (AreCopied (M.size from.old) (M.blocks from.old) (M.blocks to.old) (M.blocks to.new)) }
-    ensures same_blocks { M.blocks from.new ≡ M.blocks from.old }
-    ensures from_size { M.size from.new ≡ M.size from.old }
-    ensures to_size { (M.size to.new ≡ M.size to.old) × IsSized (M.blocks to.new) (M.size to.new) }
-    ensures rose { OnErr result (RisesBy 1 (M.faults from.old) (M.faults from.new) ⊎ RisesBy 1 (M.faults to.old) (M.faults to.new)) }
-    ensures later { (M.faults from.old ≤ M.faults from.new) × (M.faults to.old ≤ M.faults to.new) }
+fn copy_blocks<M: Medium>(from: &mut Namespace<M>, to: &mut Namespace<M>) -> Result<(), Failed>
+    requires sizes { block_count to.old ≡ block_count from.old }
+    ensures copied { OnOk result (AreCopied (block_count from.old) (told_of M.blocks from.old) (told_of M.blocks to.old) (told_of M.blocks to.new)) }
+    ensures same_blocks { told_of M.blocks from.new ≡ told_of M.blocks from.old }
+    ensures from_namespace { SameShelves from.old from.new }
+    ensures to_namespace { SameShelves to.old to.new }
+    ensures rose { OnErr result (RiseBy 1 (map M.faults (media_of from.old) ++ map M.faults (media_of to.old)) (map M.faults (media_of from.new) ++ map M.faults (media_of to.new))) }
+    ensures later { (NeverFall (map M.faults (media_of from.old)) (map M.faults (media_of from.new))) × (NeverFall (map M.faults (media_of to.old)) (map M.faults (media_of to.new))) }
 {
     let mut block = [0u8; 512];
     for b in 0..from.len() {
+        let room = to.len();
+        prove!(b < room);
         match copy_block(b, &mut block, from, to) {
             Ok(()) => {}
             Err(Failed) => return Err(Failed),
@@ -143,21 +148,19 @@ fn copy_blocks<M: Medium>(from: &mut M, to: &mut M) -> Result<(), Failed>
 fn copy_block<M: Medium>(
     b: u32,
     block: &mut [u8; 512],
-    from: &mut M,
-    to: &mut M,
+    from: &mut Namespace<M>,
+    to: &mut Namespace<M>,
 ) -> Result<(), Failed>
-    requires there { (b < M.size from.old) × (b < M.size to.old) }
-    requires from_sized { IsSized (M.blocks from.old) (M.size from.old) }
-    requires to_sized { IsSized (M.blocks to.old) (M.size to.old) }
-    ensures copied { OnOk result (CopiesBlock b (M.blocks from.old) (M.blocks to.old) (M.blocks to.new)) }
-    ensures kept { OnErr result (M.blocks to.new ≡ M.blocks to.old) }
-    ensures same_blocks { M.blocks from.new ≡ M.blocks from.old }
-    ensures from_size { M.size from.new ≡ M.size from.old }
-    ensures to_size { (M.size to.new ≡ M.size to.old) × IsSized (M.blocks to.new) (M.size to.new) }
-    ensures rose { OnErr result (RisesBy 1 (M.faults from.old) (M.faults from.new) ⊎ RisesBy 1 (M.faults to.old) (M.faults to.new)) }
-    ensures later { (M.faults from.old ≤ M.faults from.new) × (M.faults to.old ≤ M.faults to.new) }
+    requires there { (b < block_count from.old) × (b < block_count to.old) }
+    ensures copied { OnOk result (CopiesBlock b (told_of M.blocks from.old) (told_of M.blocks to.old) (told_of M.blocks to.new)) }
+    ensures kept { OnErr result (told_of M.blocks to.new ≡ told_of M.blocks to.old) }
+    ensures same_blocks { told_of M.blocks from.new ≡ told_of M.blocks from.old }
+    ensures from_namespace { SameShelves from.old from.new }
+    ensures to_namespace { SameShelves to.old to.new }
+    ensures rose { OnErr result (RiseBy 1 (map M.faults (media_of from.old) ++ map M.faults (media_of to.old)) (map M.faults (media_of from.new) ++ map M.faults (media_of to.new))) }
+    ensures later { (NeverFall (map M.faults (media_of from.old)) (map M.faults (media_of from.new))) × (NeverFall (map M.faults (media_of to.old)) (map M.faults (media_of to.new))) }
 {
-    match from.get(b, block) {
+    match from.copy_out(b, block) {
         Ok(()) => {}
         Err(Failed) => return Err(Failed),
     }

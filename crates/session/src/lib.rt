@@ -10,7 +10,6 @@ mod ending;
 mod guest;
 mod lane_script;
 mod lines;
-mod piece;
 mod pieces;
 mod queue_pair;
 mod serial;

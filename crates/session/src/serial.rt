@@ -1,6 +1,6 @@
 // A whole run: turns until the lane is complete, with at most one move between two turns, between the first lines and
 // the last.
-ghost use Rattle.std.specs.Prelude.{◌≡◌, ◌+◌, ◌<◌, ◌≤◌, ◌∷◌, [], true, false, Some, None, OnErr, OnOk, IfOk, length, replicate, vec_capacity};
+ghost use Rattle.std.specs.Prelude.{◌≡◌, ◌+◌, ◌<◌, ◌≤◌, ◌∷◌, [], true, false, Some, None, OnErr, OnOk, IfOk, length, map, replicate, vec_capacity};
 ghost use Rattle.mig_base.specs.Count.{HasCause};
 ghost use Rattle.nvm_model.specs.Memory.{zero_page};
 ghost use Rattle.nvm_model.specs.ScriptText.{IsHead};
@@ -8,7 +8,8 @@ ghost use Rattle.nvm_model.specs.World.{new_lane};
 ghost use Rattle.session.specs.Run.{Turns, HasRun, HasStopped, IfTold, framed, unframed};
 ghost use Rattle.session.specs.Side.{HasMemory, window_of};
 ghost use Rattle.session.specs.State.{CanStand, Stands, IsLaneOf, IsNewPair, IsPairComplete, pair_work};
-ghost use Rattle.session.specs.Work.{IsSized};
+ghost use Rattle.nvm_blocks.specs.Namespace.{media_of, told_of};
+ghost use Rattle.session.specs.Shelves.{IsNamespaceOf, SameShelves};
 
 use crate::cutover::migrate;
 use crate::lines::{write_line, write_lines};
@@ -17,11 +18,12 @@ use crate::{Ending, LaneScript, QueuePair};
 use guest_ram::Ram;
 use mig_base::{Failed, Sink};
 use mig_medium::Medium;
+use nvm_blocks::Namespace;
 use nvm_model::{Line, Script};
 use transcript::LineBuf;
 
 /// Runs the script's one lane, from `ready` to `end`, on one thread: over the source, and after a migration over the
-/// destination. Each side is a host's guest memory and its one medium.
+/// destination. Each side is a host's guest memory and its namespace.
 ///
 /// # Errors
 ///
@@ -32,28 +34,27 @@ pub fn run<K: Sink, M: Medium>(
     pair: &mut QueuePair,
     events: &mut Vec<Line>,
     from_ram: &mut Ram,
-    from: &mut M,
+    from: &mut Namespace<M>,
     to_ram: &mut Ram,
-    to: &mut M,
+    to: &mut Namespace<M>,
     output: &mut K,
 ) -> Result<Ending, Failed>
     requires head { IsHead script.now.head }
-    requires shelf { script.now.head.shelf ≡ script.now.head.blocks }
     requires lane { IsLaneOf script.now ls.now }
     requires new { IsNewPair ls.now script.now.head.burst pair.old }
     requires zeroed { (window_of from_ram.old).pages ≡ replicate (ls.now.set.pages + 2) zero_page }
     requires from_memory { HasMemory ls.now from_ram.old }
     requires to_memory { HasMemory ls.now to_ram.old }
-    requires from_size { (M.size from.old ≡ script.now.head.blocks) × IsSized (M.blocks from.old) (M.size from.old) }
-    requires to_size { (M.size to.old ≡ script.now.head.blocks) × IsSized (M.blocks to.old) (M.size to.old) }
-    requires room { 512 ≤ vec_capacity events.old }
+    requires from_namespace { IsNamespaceOf script.now.head from.old }
+    requires to_namespace { IsNamespaceOf script.now.head to.old }
+    requires room { 4608 ≤ vec_capacity events.old }
 
-    ensures run { IfOk result (λ ending. IfTold (M.blocks from.old) (M.blocks to.old) (HasRun framed script.now ls.now.lane
-        (new_lane ls.now.set.pages) ending (M.faults from.old) (M.faults to.old) (K.bytes output.old)
-        (M.blocks from.new) (window_of from_ram.new).pages (M.blocks to.new) (window_of to_ram.new).pages (M.faults from.new) (M.faults to.new) (K.bytes output.new))) }
-    ensures stopped { OnErr result (IfTold (M.blocks from.old) (M.blocks to.old) (HasStopped framed script.now ls.now.lane
-        (new_lane ls.now.set.pages) (M.faults from.old) (M.faults to.old) (K.bytes output.old)
-        (M.faults from.new) (M.faults to.new) (K.bytes output.new))) }
+    ensures run { IfOk result (λ ending. IfTold (told_of M.blocks from.old) (told_of M.blocks to.old) (HasRun framed script.now ls.now.lane
+        (new_lane ls.now.set.pages) ending (map M.faults (media_of from.old)) (map M.faults (media_of to.old)) (K.bytes output.old)
+        (told_of M.blocks from.new) (window_of from_ram.new).pages (told_of M.blocks to.new) (window_of to_ram.new).pages (map M.faults (media_of from.new)) (map M.faults (media_of to.new)) (K.bytes output.new))) }
+    ensures stopped { OnErr result (IfTold (told_of M.blocks from.old) (told_of M.blocks to.old) (HasStopped framed script.now ls.now.lane
+        (new_lane ls.now.set.pages) (map M.faults (media_of from.old)) (map M.faults (media_of to.old)) (K.bytes output.old)
+        (map M.faults (media_of from.new)) (map M.faults (media_of to.new)) (K.bytes output.new))) }
     ensures from_memory { HasMemory ls.now from_ram.new }
     ensures to_memory { HasMemory ls.now to_ram.new }
     ensures cause { HasCause (K.faults output.old) (K.faults output.new) result }
@@ -82,29 +83,28 @@ fn run_body<K: Sink, M: Medium>(
     pair: &mut QueuePair,
     events: &mut Vec<Line>,
     from_ram: &mut Ram,
-    from: &mut M,
+    from: &mut Namespace<M>,
     to_ram: &mut Ram,
-    to: &mut M,
+    to: &mut Namespace<M>,
     buf: &mut LineBuf,
     output: &mut K,
 ) -> Result<Ending, Failed>
     requires head { IsHead script.now.head }
-    requires shelf { script.now.head.shelf ≡ script.now.head.blocks }
     requires lane { IsLaneOf script.now ls.now }
     requires start { Stands ls.now script.now.head.burst (window_of from_ram.old) pair.old (new_lane ls.now.set.pages) }
     requires none { pair.old.running.items ≡ [] }
     requires from_memory { HasMemory ls.now from_ram.old }
     requires to_memory { HasMemory ls.now to_ram.old }
-    requires from_size { (M.size from.old ≡ script.now.head.blocks) × IsSized (M.blocks from.old) (M.size from.old) }
-    requires to_size { (M.size to.old ≡ script.now.head.blocks) × IsSized (M.blocks to.old) (M.size to.old) }
-    requires room { 512 ≤ vec_capacity events.old }
+    requires from_namespace { IsNamespaceOf script.now.head from.old }
+    requires to_namespace { IsNamespaceOf script.now.head to.old }
+    requires room { 4608 ≤ vec_capacity events.old }
 
-    ensures run { IfOk result (λ ending. IfTold (M.blocks from.old) (M.blocks to.old) (HasRun unframed script.now ls.now.lane
-        (new_lane ls.now.set.pages) ending (M.faults from.old) (M.faults to.old) (K.bytes output.old)
-        (M.blocks from.new) (window_of from_ram.new).pages (M.blocks to.new) (window_of to_ram.new).pages (M.faults from.new) (M.faults to.new) (K.bytes output.new))) }
-    ensures stopped { OnErr result (IfTold (M.blocks from.old) (M.blocks to.old) (HasStopped unframed script.now ls.now.lane
-        (new_lane ls.now.set.pages) (M.faults from.old) (M.faults to.old) (K.bytes output.old)
-        (M.faults from.new) (M.faults to.new) (K.bytes output.new))) }
+    ensures run { IfOk result (λ ending. IfTold (told_of M.blocks from.old) (told_of M.blocks to.old) (HasRun unframed script.now ls.now.lane
+        (new_lane ls.now.set.pages) ending (map M.faults (media_of from.old)) (map M.faults (media_of to.old)) (K.bytes output.old)
+        (told_of M.blocks from.new) (window_of from_ram.new).pages (told_of M.blocks to.new) (window_of to_ram.new).pages (map M.faults (media_of from.new)) (map M.faults (media_of to.new)) (K.bytes output.new))) }
+    ensures stopped { OnErr result (IfTold (told_of M.blocks from.old) (told_of M.blocks to.old) (HasStopped unframed script.now ls.now.lane
+        (new_lane ls.now.set.pages) (map M.faults (media_of from.old)) (map M.faults (media_of to.old)) (K.bytes output.old)
+        (map M.faults (media_of from.new)) (map M.faults (media_of to.new)) (K.bytes output.new))) }
     ensures from_memory { HasMemory ls.now from_ram.new }
     ensures to_memory { HasMemory ls.now to_ram.new }
     ensures cause { HasCause (K.faults output.old) (K.faults output.new) result }
@@ -129,30 +129,29 @@ fn run_moving<K: Sink, M: Medium>(
     pair: &mut QueuePair,
     events: &mut Vec<Line>,
     from_ram: &mut Ram,
-    from: &mut M,
+    from: &mut Namespace<M>,
     to_ram: &mut Ram,
-    to: &mut M,
+    to: &mut Namespace<M>,
     buf: &mut LineBuf,
     output: &mut K,
 ) -> Result<Ending, Failed>
     requires asked { script.now.head.migrate ≡ Some turn }
     requires head { IsHead script.now.head }
-    requires shelf { script.now.head.shelf ≡ script.now.head.blocks }
     requires lane { IsLaneOf script.now ls.now }
     requires start { Stands ls.now script.now.head.burst (window_of from_ram.old) pair.old (new_lane ls.now.set.pages) }
     requires none { pair.old.running.items ≡ [] }
     requires from_memory { HasMemory ls.now from_ram.old }
     requires to_memory { HasMemory ls.now to_ram.old }
-    requires from_size { (M.size from.old ≡ script.now.head.blocks) × IsSized (M.blocks from.old) (M.size from.old) }
-    requires to_size { (M.size to.old ≡ script.now.head.blocks) × IsSized (M.blocks to.old) (M.size to.old) }
-    requires room { 512 ≤ vec_capacity events.old }
+    requires from_namespace { IsNamespaceOf script.now.head from.old }
+    requires to_namespace { IsNamespaceOf script.now.head to.old }
+    requires room { 4608 ≤ vec_capacity events.old }
 
-    ensures run { IfOk result (λ ending. IfTold (M.blocks from.old) (M.blocks to.old) (HasRun unframed script.now ls.now.lane
-        (new_lane ls.now.set.pages) ending (M.faults from.old) (M.faults to.old) (K.bytes output.old)
-        (M.blocks from.new) (window_of from_ram.new).pages (M.blocks to.new) (window_of to_ram.new).pages (M.faults from.new) (M.faults to.new) (K.bytes output.new))) }
-    ensures stopped { OnErr result (IfTold (M.blocks from.old) (M.blocks to.old) (HasStopped unframed script.now ls.now.lane
-        (new_lane ls.now.set.pages) (M.faults from.old) (M.faults to.old) (K.bytes output.old)
-        (M.faults from.new) (M.faults to.new) (K.bytes output.new))) }
+    ensures run { IfOk result (λ ending. IfTold (told_of M.blocks from.old) (told_of M.blocks to.old) (HasRun unframed script.now ls.now.lane
+        (new_lane ls.now.set.pages) ending (map M.faults (media_of from.old)) (map M.faults (media_of to.old)) (K.bytes output.old)
+        (told_of M.blocks from.new) (window_of from_ram.new).pages (told_of M.blocks to.new) (window_of to_ram.new).pages (map M.faults (media_of from.new)) (map M.faults (media_of to.new)) (K.bytes output.new))) }
+    ensures stopped { OnErr result (IfTold (told_of M.blocks from.old) (told_of M.blocks to.old) (HasStopped unframed script.now ls.now.lane
+        (new_lane ls.now.set.pages) (map M.faults (media_of from.old)) (map M.faults (media_of to.old)) (K.bytes output.old)
+        (map M.faults (media_of from.new)) (map M.faults (media_of to.new)) (K.bytes output.new))) }
     ensures from_memory { HasMemory ls.now from_ram.new }
     ensures to_memory { HasMemory ls.now to_ram.new }
     ensures cause { HasCause (K.faults output.old) (K.faults output.new) result }
@@ -165,6 +164,7 @@ fn run_moving<K: Sink, M: Medium>(
         Ok(ending) => ending,
         Err(Failed) => return Err(Failed),
     };
+    prove!(from.len() == to.len());
     match ending {
         Ending::Done => match run_turns(script, ls, pair, events, to_ram, to, buf, output) {
             Ok(()) => Ok(Ending::Done),
@@ -185,29 +185,28 @@ fn run_turns_before<K: Sink, M: Medium>(
     pair: &mut QueuePair,
     events: &mut Vec<Line>,
     ram: &mut Ram,
-    medium: &mut M,
+    namespace: &mut Namespace<M>,
     buf: &mut LineBuf,
     output: &mut K,
 ) -> Result<(), Failed>
     requires head { IsHead script.now.head }
-    requires shelf { script.now.head.shelf ≡ script.now.head.blocks }
     requires lane { IsLaneOf script.now ls.now }
     requires stands { CanStand ls.now script.now.head.burst (window_of ram.old) pair.old }
     requires none { pair.old.running.items ≡ [] }
     requires memory { HasMemory ls.now ram.old }
-    requires size { (M.size medium.old ≡ script.now.head.blocks) × IsSized (M.blocks medium.old) (M.size medium.old) }
-    requires room { 512 ≤ vec_capacity events.old }
+    requires namespace { IsNamespaceOf script.now.head namespace.old }
+    requires room { 4608 ≤ vec_capacity events.old }
 
     ensures turned { OnOk result (Turns true script.now ls.now
-        (M.blocks medium.old) (M.faults medium.old) (window_of ram.old) pair.old (K.bytes output.old)
-        (M.blocks medium.new) (M.faults medium.new) (window_of ram.new) pair.new (K.bytes output.new)) }
+        (told_of M.blocks namespace.old) (map M.faults (media_of namespace.old)) (window_of ram.old) pair.old (K.bytes output.old)
+        (told_of M.blocks namespace.new) (map M.faults (media_of namespace.new)) (window_of ram.new) pair.new (K.bytes output.new)) }
     ensures stopped { OnErr result (Turns false script.now ls.now
-        (M.blocks medium.old) (M.faults medium.old) (window_of ram.old) pair.old (K.bytes output.old)
-        (M.blocks medium.new) (M.faults medium.new) (window_of ram.new) pair.new (K.bytes output.new)) }
+        (told_of M.blocks namespace.old) (map M.faults (media_of namespace.old)) (window_of ram.old) pair.old (K.bytes output.old)
+        (told_of M.blocks namespace.new) (map M.faults (media_of namespace.new)) (window_of ram.new) pair.new (K.bytes output.new)) }
     ensures stands { CanStand ls.now script.now.head.burst (window_of ram.new) pair.new }
     ensures none { pair.new.running.items ≡ [] }
     ensures memory { HasMemory ls.now ram.new }
-    ensures size { (M.size medium.new ≡ M.size medium.old) × IsSized (M.blocks medium.new) (M.size medium.new) }
+    ensures namespace { SameShelves namespace.old namespace.new }
     ensures capacity { vec_capacity events.new ≡ vec_capacity events.old }
     ensures cause { HasCause (K.faults output.old) (K.faults output.new) result }
 {
@@ -215,7 +214,7 @@ fn run_turns_before<K: Sink, M: Medium>(
         if is_complete(ls, pair) {
             return Ok(());
         }
-        match run_turn(script, ls, pair, events, ram, medium, buf, output) {
+        match run_turn(script, ls, pair, events, ram, namespace, buf, output) {
             Ok(()) => {}
             Err(Failed) => return Err(Failed),
         }
@@ -230,35 +229,34 @@ fn run_turns<K: Sink, M: Medium>(
     pair: &mut QueuePair,
     events: &mut Vec<Line>,
     ram: &mut Ram,
-    medium: &mut M,
+    namespace: &mut Namespace<M>,
     buf: &mut LineBuf,
     output: &mut K,
 ) -> Result<(), Failed>
     requires head { IsHead script.now.head }
-    requires shelf { script.now.head.shelf ≡ script.now.head.blocks }
     requires lane { IsLaneOf script.now ls.now }
     requires stands { CanStand ls.now script.now.head.burst (window_of ram.old) pair.old }
     requires none { pair.old.running.items ≡ [] }
     requires memory { HasMemory ls.now ram.old }
-    requires size { (M.size medium.old ≡ script.now.head.blocks) × IsSized (M.blocks medium.old) (M.size medium.old) }
-    requires room { 512 ≤ vec_capacity events.old }
+    requires namespace { IsNamespaceOf script.now.head namespace.old }
+    requires room { 4608 ≤ vec_capacity events.old }
 
     ensures turned { OnOk result (Turns true script.now ls.now
-        (M.blocks medium.old) (M.faults medium.old) (window_of ram.old) pair.old (K.bytes output.old)
-        (M.blocks medium.new) (M.faults medium.new) (window_of ram.new) pair.new (K.bytes output.new)) }
+        (told_of M.blocks namespace.old) (map M.faults (media_of namespace.old)) (window_of ram.old) pair.old (K.bytes output.old)
+        (told_of M.blocks namespace.new) (map M.faults (media_of namespace.new)) (window_of ram.new) pair.new (K.bytes output.new)) }
     ensures stopped { OnErr result (Turns false script.now ls.now
-        (M.blocks medium.old) (M.faults medium.old) (window_of ram.old) pair.old (K.bytes output.old)
-        (M.blocks medium.new) (M.faults medium.new) (window_of ram.new) pair.new (K.bytes output.new)) }
+        (told_of M.blocks namespace.old) (map M.faults (media_of namespace.old)) (window_of ram.old) pair.old (K.bytes output.old)
+        (told_of M.blocks namespace.new) (map M.faults (media_of namespace.new)) (window_of ram.new) pair.new (K.bytes output.new)) }
     ensures stands { CanStand ls.now script.now.head.burst (window_of ram.new) pair.new }
     ensures none { pair.new.running.items ≡ [] }
     ensures memory { HasMemory ls.now ram.new }
-    ensures size { (M.size medium.new ≡ M.size medium.old) × IsSized (M.blocks medium.new) (M.size medium.new) }
+    ensures namespace { SameShelves namespace.old namespace.new }
     ensures complete { OnOk result (IsPairComplete ls.now pair.new) }
     ensures capacity { vec_capacity events.new ≡ vec_capacity events.old }
     ensures cause { HasCause (K.faults output.old) (K.faults output.new) result }
 {
     'turns: while !is_complete(ls, pair) {
-        match run_turn(script, ls, pair, events, ram, medium, buf, output) {
+        match run_turn(script, ls, pair, events, ram, namespace, buf, output) {
             Ok(()) => {}
             Err(Failed) => return Err(Failed),
         }
@@ -273,35 +271,34 @@ fn run_turn<K: Sink, M: Medium>(
     pair: &mut QueuePair,
     events: &mut Vec<Line>,
     ram: &mut Ram,
-    medium: &mut M,
+    namespace: &mut Namespace<M>,
     buf: &mut LineBuf,
     output: &mut K,
 ) -> Result<(), Failed>
     requires head { IsHead script.now.head }
-    requires shelf { script.now.head.shelf ≡ script.now.head.blocks }
     requires lane { IsLaneOf script.now ls.now }
     requires stands { CanStand ls.now script.now.head.burst (window_of ram.old) pair.old }
     requires none { pair.old.running.items ≡ [] }
     requires memory { HasMemory ls.now ram.old }
-    requires size { (M.size medium.old ≡ script.now.head.blocks) × IsSized (M.blocks medium.old) (M.size medium.old) }
-    requires room { 512 ≤ vec_capacity events.old }
+    requires namespace { IsNamespaceOf script.now.head namespace.old }
+    requires room { 4608 ≤ vec_capacity events.old }
 
     ensures turned { OnOk result (Turns true script.now ls.now
-        (M.blocks medium.old) (M.faults medium.old) (window_of ram.old) pair.old (K.bytes output.old)
-        (M.blocks medium.new) (M.faults medium.new) (window_of ram.new) pair.new (K.bytes output.new)) }
+        (told_of M.blocks namespace.old) (map M.faults (media_of namespace.old)) (window_of ram.old) pair.old (K.bytes output.old)
+        (told_of M.blocks namespace.new) (map M.faults (media_of namespace.new)) (window_of ram.new) pair.new (K.bytes output.new)) }
     ensures stopped { OnErr result (Turns false script.now ls.now
-        (M.blocks medium.old) (M.faults medium.old) (window_of ram.old) pair.old (K.bytes output.old)
-        (M.blocks medium.new) (M.faults medium.new) (window_of ram.new) pair.new (K.bytes output.new)) }
+        (told_of M.blocks namespace.old) (map M.faults (media_of namespace.old)) (window_of ram.old) pair.old (K.bytes output.old)
+        (told_of M.blocks namespace.new) (map M.faults (media_of namespace.new)) (window_of ram.new) pair.new (K.bytes output.new)) }
     ensures stands { CanStand ls.now script.now.head.burst (window_of ram.new) pair.new }
     ensures none { pair.new.running.items ≡ [] }
     ensures memory { HasMemory ls.now ram.new }
-    ensures size { (M.size medium.new ≡ M.size medium.old) × IsSized (M.blocks medium.new) (M.size medium.new) }
+    ensures namespace { SameShelves namespace.old namespace.new }
     ensures onward { (IsPairComplete ls.now pair.old → ⊥) → pair_work ls.now pair.new < pair_work ls.now pair.old }
     ensures capacity { vec_capacity events.new ≡ vec_capacity events.old }
     ensures cause { HasCause (K.faults output.old) (K.faults output.new) result }
 {
     let windows = ram.windows();
-    turn(script, ls, &mut windows[0], pair, medium, events);
+    turn(script, ls, &mut windows[0], pair, namespace, events);
     match write_lines(events, buf, output) {
         Ok(()) => Ok(()),
         Err(Failed) => Err(Failed),

@@ -1,10 +1,11 @@
 // One turn: a list of events, which are written as lines after it.
-ghost use Rattle.std.specs.Prelude.{◌≡◌, ◌+◌, ◌*◌, ◌<◌, ◌≤◌, ◌↔◌, [], IsTrue, length, vec_capacity};
+ghost use Rattle.std.specs.Prelude.{◌≡◌, ◌+◌, ◌*◌, ◌<◌, ◌≤◌, ◌↔◌, [], IsTrue, length, map, vec_capacity};
 ghost use Rattle.nvm_model.specs.ScriptText.{IsHead};
 ghost use Rattle.nvm_model.specs.World.{Lane};
 ghost use Rattle.session.specs.Leads.{TurnsTo};
 ghost use Rattle.session.specs.State.{CanStand, Stands, IsLaneOf, IsPairComplete, pair_work};
-ghost use Rattle.session.specs.Work.{IsSized};
+ghost use Rattle.nvm_blocks.specs.Namespace.{media_of, told_of};
+ghost use Rattle.session.specs.Shelves.{IsNamespaceOf, SameShelves};
 
 use crate::controller::{fetch_all, post_all};
 use crate::guest::{do_acts, reap_all};
@@ -12,10 +13,11 @@ use crate::pieces::do_pieces;
 use crate::{LaneScript, QueuePair};
 use guest_ram::Window;
 use mig_medium::Medium;
+use nvm_blocks::Namespace;
 use nvm_model::{Line, Script};
 
-/// The most events that one turn of a lane can have, for the largest queues and bursts.
-pub const MOST_EVENTS: usize = 512;
+/// The most events that one turn of a lane can have, for the largest queues, bursts and numbers of shelves.
+pub const MOST_EVENTS: usize = 4608;
 
 /// Whether the guest has done its acts and no command of its is under way.
 pub(crate) fn is_complete(ls: &LaneScript, pair: &QueuePair) -> bool
@@ -31,23 +33,22 @@ pub(crate) fn turn<M: Medium>(
     ls: &LaneScript,
     window: &mut Window,
     pair: &mut QueuePair,
-    medium: &mut M,
+    namespace: &mut Namespace<M>,
     events: &mut Vec<Line>,
 )
     requires head { IsHead script.now.head }
-    requires shelf { script.now.head.shelf ≡ script.now.head.blocks }
     requires lane { IsLaneOf script.now ls.now }
     requires stands { CanStand ls.now script.now.head.burst window.old pair.old }
     requires none { pair.old.running.items ≡ [] }
-    requires size { (M.size medium.old ≡ script.now.head.blocks) × IsSized (M.blocks medium.old) (M.size medium.old) }
-    requires room { 512 ≤ vec_capacity events.old }
+    requires namespace { IsNamespaceOf script.now.head namespace.old }
+    requires room { 4608 ≤ vec_capacity events.old }
 
     ensures turns { (lane : Lane) → Stands ls.now script.now.head.burst window.old pair.old lane
-        → TurnsTo script.now ls.now lane (M.blocks medium.old) (M.faults medium.old) (M.blocks medium.new) (M.faults medium.new) window.new pair.new events.new.items }
+        → TurnsTo script.now ls.now lane (told_of M.blocks namespace.old) (map M.faults (media_of namespace.old)) (told_of M.blocks namespace.new) (map M.faults (media_of namespace.new)) window.new pair.new events.new.items }
     ensures stands { CanStand ls.now script.now.head.burst window.new pair.new }
     ensures window { (window.new.lane ≡ window.old.lane) × (length window.new.pages ≡ length window.old.pages) }
     ensures none { pair.new.running.items ≡ [] }
-    ensures size { (M.size medium.new ≡ M.size medium.old) × IsSized (M.blocks medium.new) (M.size medium.new) }
+    ensures namespace { SameShelves namespace.old namespace.new }
     ensures onward { (IsPairComplete ls.now pair.old → ⊥) → pair_work ls.now pair.new < pair_work ls.now pair.old }
     ensures capacity { vec_capacity events.new ≡ vec_capacity events.old }
 {
@@ -55,6 +56,6 @@ pub(crate) fn turn<M: Medium>(
     reap_all(script, ls, window, pair, events);
     do_acts(script, ls, window, pair, events);
     fetch_all(script, ls, window, pair, events);
-    do_pieces(script, ls, window, pair, medium, events);
+    do_pieces(script, ls, window, pair, namespace, events);
     post_all(script, ls, window, pair, events);
 }

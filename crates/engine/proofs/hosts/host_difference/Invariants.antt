@@ -1,5 +1,4 @@
-use Rattle.std.proofs.Common.{◌≡◌, All, map, take, drop}
-use Rattle.session.specs.Work.{IsSized}
+use Rattle.std.proofs.Common.{◌≡◌, map, drop}
 use Rattle.engine.specs.Sizes.{first_difference}
 use Rattle.engine.proofs.hosts.host_difference.Given as goal
 
@@ -8,5 +7,4 @@ invariant-loop-medium g l =
     let medium = g.M.Medium in
     record {
       first : first_difference (map (λ size. (size, l.shelf)) (map medium.size (drop l.medium-index l.host.shelves.items))) ≡ first_difference (map (λ size. (size, l.shelf)) (map medium.size l.host.shelves.items));
-      sized : All (λ m. IsSized (medium.blocks m) (medium.size m)) (take l.medium-index l.host.shelves.items);
     }

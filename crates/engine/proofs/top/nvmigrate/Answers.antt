@@ -1,6 +1,6 @@
 use Rattle.std.proofs.Common.{ap}
 use Rattle.engine.specs.Ended.{gives_up}
-use Rattle.engine.proofs.TopLemmas.{history, complete, hosts, rose, gave_up, began}
+use Rattle.engine.proofs.TopLemmas.{history, complete, hosts, rose, gave_up, if_failed, began}
 use Rattle.engine.proofs.top.nvmigrate.Goals as goal
 
 pub returns-in-Ok-Done-clause-history : goal.returns-in-Ok-Done-clause-history
@@ -34,4 +34,4 @@ pub returns-in-Ok-GaveUp-clause-gave_up : goal.returns-in-Ok-GaveUp-clause-gave_
 returns-in-Ok-GaveUp-clause-gave_up g c = gave_up (record { taken = c.in-Ok.ensures.taken; spelled = c.in-Ok.ensures.spelled; ended = c.in-Ok-GaveUp.ensures.ran }) (ap gives_up c.in-Ok-GaveUp.field-0-is)
 
 pub returns-clause-sink : goal.returns-clause-sink
-returns-clause-sink g c = began _ c.in-Ok.ensures.taken c.in-Ok.ensures.spelled c.in-Err-run_hosts.ensures.broken
+returns-clause-sink g c = began _ c.in-Ok.ensures.taken c.in-Ok.ensures.spelled (if_failed _ _ c.in-Err-Failed.field-0-is c.in-Err-Failed.ensures.broken)

@@ -1,11 +1,9 @@
-use Rattle.std.proofs.Common.{map, ap, ◌∙◌}
-use Rattle.engine.proofs.SizeLemmas.{has_one_shelf, has_one_other}
+use Rattle.std.proofs.Common.{map}
+use Rattle.engine.proofs.SizeLemmas.{has_shelves, has_other_shelves}
 use Rattle.engine.proofs.top.run_hosts.Goals as goal
 
-pub run_lane-requires-clause-one : goal.run_lane-requires-clause-one
-run_lane-requires-clause-one g c =
-    ap (map g.M.Medium.size) c.as_mut_slice.ensures.value ∙ has_one_shelf c.args.script.now (map g.M.Medium.size c.args.from.now.shelves.items) (map g.M.Medium.size c.args.to.now.shelves.items) c.requires.taken c.requires.sizes
+pub take_namespaces-requires-clause-sizes : goal.take_namespaces-requires-clause-sizes
+take_namespaces-requires-clause-sizes g c = has_shelves c.args.script.now (map g.M.Medium.size c.args.from.now.shelves.items) (map g.M.Medium.size c.args.to.now.shelves.items) c.requires.sizes
 
-pub run_lane-requires-clause-to_one : goal.run_lane-requires-clause-to_one
-run_lane-requires-clause-to_one g c =
-    ap (map g.M.Medium.size) c.as_mut_slice-2.ensures.value ∙ has_one_other c.args.script.now (map g.M.Medium.size c.args.from.now.shelves.items) (map g.M.Medium.size c.args.to.now.shelves.items) c.requires.taken c.requires.sizes
+pub take_namespaces-requires-clause-to_sizes : goal.take_namespaces-requires-clause-to_sizes
+take_namespaces-requires-clause-to_sizes g c = has_other_shelves c.args.script.now (map g.M.Medium.size c.args.from.now.shelves.items) (map g.M.Medium.size c.args.to.now.shelves.items) c.requires.sizes

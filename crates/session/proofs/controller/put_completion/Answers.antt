@@ -17,10 +17,10 @@ returns-in-Ok-clause-posted c = λ ls burst was l can.
     let pair = c.args.pair.now in
     let ring = subst (λ (p : List ℕ). IsCqRing pair.cq p (posted_entries ls.lane l.posted) l.reaped) (sym c.page.ensures.value) (posted_ring can) in
     let newest = c.post.ensures.newest (posted_entries ls.lane l.posted) l.reaped ring (posted_room can) in
-    put_stands c.post.new.self c.post.new.page c.completion.result can c.keep_completion.ensures.lane
+    put_stands c.post.new.self c.post.new.page c.finish-entry.result can c.keep_completion.ensures.lane
     (c.keep_completion.ensures.pages ∙ ap (λ (r : RingState). with_bytes pages 1 (16 * r.tail) (cell 16 r.tail c.post.new.page)) c.state-place.ensures.value)
-    (c.completion.ensures ∙ ap (λ (r : RingState). untagged_entry c.args.lane r.head c.args.command.now) c.state-head.ensures.value)
-    (c.in-Ok.ensures.page ∙ ap (λ (p : List ℕ). written p (16 * pair.cq.ring.tail) (cqe_bytes (with_phase pair.cq.phase c.completion.result))) c.page.ensures.value)
+    (c.finish-entry.ensures ∙ ap (λ (r : RingState). untagged_entry c.args.lane r.head c.args.command.now) c.state-head.ensures.value)
+    (c.in-Ok.ensures.page ∙ ap (λ (p : List ℕ). written p (16 * pair.cq.ring.tail) (cqe_bytes (with_phase pair.cq.phase c.finish-entry.result))) c.page.ensures.value)
     c.in-Ok.ensures.moved
     newest.1
 

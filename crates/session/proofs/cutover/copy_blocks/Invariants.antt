@@ -1,17 +1,20 @@
-use Rattle.std.proofs.Common.{◌≡◌, ◌≤◌}
+use Rattle.std.proofs.Common.{◌≡◌}
+use Rattle.mig_base.specs.Count.{NeverFall}
+use Rattle.nvm_blocks.specs.Namespace.{told_of}
+use Rattle.session.specs.Shelves.{SameShelves}
 use Rattle.session.specs.Side.{AreCopied}
-use Rattle.session.specs.Work.{IsSized}
+use Rattle.session.proofs.ShelvesLemmas.{faults_of}
 use Rattle.session.proofs.cutover.copy_blocks.Given as goal
 
 abbrev pub invariant-loop-b : goal.invariant-loop-b
 invariant-loop-b g l =
-    let medium = g.M.Medium in
+    let told = told_of g.M.Medium.blocks in
+    let faults = faults_of g.M.Medium.faults in
     record {
-      copied : AreCopied l.b (medium.blocks l.fn.from) (medium.blocks l.fn.to) (medium.blocks l.to);
-      same_blocks : medium.blocks l.from ≡ medium.blocks l.fn.from;
-      from_size : medium.size l.from ≡ medium.size l.fn.from;
-      to_size : medium.size l.to ≡ medium.size l.fn.to;
-      to_sized : IsSized (medium.blocks l.to) (medium.size l.to);
-      from_later : medium.faults l.fn.from ≤ medium.faults l.from;
-      to_later : medium.faults l.fn.to ≤ medium.faults l.to;
+      copied : AreCopied l.b (told l.fn.from) (told l.fn.to) (told l.to);
+      same_blocks : told l.from ≡ told l.fn.from;
+      from_same : SameShelves l.fn.from l.from;
+      to_same : SameShelves l.fn.to l.to;
+      from_later : NeverFall (faults l.fn.from) (faults l.from);
+      to_later : NeverFall (faults l.fn.to) (faults l.to);
     }

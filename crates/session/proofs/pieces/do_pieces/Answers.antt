@@ -4,11 +4,25 @@ use Rattle.std.proofs.lemmas.List.Elements.{All-same, All-drop}
 use Rattle.nvm_model.specs.declared.command.Command.{Command}
 use Rattle.nvm_model.specs.Piece.{pieces_left}
 use Rattle.session.specs.State.{no_command, IsFetched}
-use Rattle.session.proofs.GoesLemmas.{goes_more}
+use Rattle.session.proofs.GoesLemmas.{goes_more, goes_none}
+use Rattle.session.proofs.ShelvesLemmas.{same_more}
 use Rattle.session.proofs.pieces.do_pieces.Goals as goal
 
-pub do_piece_at-requires-clause-fetched : goal.do_piece_at-requires-clause-fetched
-do_piece_at-requires-clause-fetched g c =
+pub loop-place-init : goal.loop-place-init
+loop-place-init g c = record {
+  goes = λ lane. goes_none _ _ _ _ _ _;
+  window = search rules;
+  pair = search rules;
+  finished = search rules;
+  fetched = c.requires.fetched;
+  namespace = search rules;
+  least = omega arith;
+  most = omega arith;
+  capacity = search rules;
+}
+
+pub do_command-requires-clause-fetched : goal.do_command-requires-clause-fetched
+do_command-requires-clause-fetched g c =
     let place = c.loop-place.place in
     let running = c.loop-place.pair.running.items in
     let left : 0 < length (drop place running) = simp length-drop (omega arith) in
@@ -22,13 +36,12 @@ loop-place-preserved g c =
     let place = c.loop-place.place in
     let running = c.loop-place.pair.running.items in
     record {
-      goes = λ lane. goes_more (c.loop-place.invariant.goes lane) (c.do_piece_at.ensures.goes lane);
+      goes = λ lane. goes_more (c.loop-place.invariant.goes lane) (c.do_command.ensures.goes lane);
       window = search rules;
       pair = search rules;
-      finished = c.do_piece_at.ensures.finished;
-      fetched = All-same fits _ _ (c.do_piece_at.ensures.others ∙ sym (drop-drop 1 place running)) (All-drop fits 1 (drop place running) c.loop-place.invariant.fetched);
-      same_size = search rules;
-      sized = c.do_piece_at.ensures.size.1;
+      finished = c.do_command.ensures.finished;
+      fetched = All-same fits _ _ (c.do_command.ensures.others ∙ sym (drop-drop 1 place running)) (All-drop fits 1 (drop place running) c.loop-place.invariant.fetched);
+      namespace = same_more c.loop-place.invariant.namespace c.do_command.ensures.namespace;
       least = omega arith;
       most = omega arith;
       capacity = search rules;

@@ -1,7 +1,8 @@
-use Rattle.std.proofs.Common.{◌≡◌, ℕ, ◌+◌, ◌-◌, ◌*◌, ◌<◌, ◌≤◌, List, ⊎_elim, length, vec_len, subst, sym, ap, ◌∙◌}
+use Rattle.std.proofs.Common.{◌≡◌, ℕ, ◌+◌, ◌-◌, ◌*◌, ◌<◌, ◌≤◌, List, ⊎_elim, length, map, vec_len, subst, sym, ap, ◌∙◌}
 use Rattle.std.proofs.lemmas.Bool.{cases_lt}
 use Rattle.nvm_model.specs.declared.line.Line.{Line}
 use Rattle.nvm_model.specs.World.{Lane}
+use Rattle.nvm_blocks.specs.Namespace.{media_of, told_of}
 use Rattle.session.specs.Goes.{Goes}
 use Rattle.session.specs.Leads.{with_work}
 use Rattle.session.specs.State.{work_left}
@@ -20,10 +21,10 @@ pub returns-clause-turns : goal.returns-clause-turns
 returns-clause-turns g c = λ lane stands.
     let s = c.args.script.now in
     let k = c.args.ls.now.lane in
-    let told = g.M.Medium.blocks c.args.medium.now in
-    let faults = g.M.Medium.faults c.args.medium.now in
-    let new_told = g.M.Medium.blocks c.do_pieces.new.medium in
-    let new_faults = g.M.Medium.faults c.do_pieces.new.medium in
+    let told = told_of g.M.Medium.blocks c.args.namespace.now in
+    let faults = map g.M.Medium.faults (media_of c.args.namespace.now) in
+    let new_told = told_of g.M.Medium.blocks c.do_pieces.new.namespace in
+    let new_faults = map g.M.Medium.faults (media_of c.do_pieces.new.namespace) in
     let reaped = c.reap_all.ensures.leads lane stands in
     let acted = c.do_acts.ensures.leads reaped.new reaped.stands in
     let fetched = c.fetch_all.ensures.leads acted.new acted.stands in

@@ -1,0 +1,14 @@
+use Rattle.std.proofs.Common.{◌/◌, ap}
+use Rattle.engine.proofs.NamespaceLemmas.{all_of_size, same_media, is_namespace}
+use Rattle.engine.proofs.hosts.take_namespace.Goals as goal
+
+pub make-requires-clause-sizes : goal.make-requires-clause-sizes
+make-requires-clause-sizes g c =
+    let head = c.args.head.now in
+    all_of_size g.M.Medium.size c.replace-media.result.items (head.blocks / head.shelf) head.shelf (same_media g.M.Medium.size (ap (λ media. media.items) c.replace-media.ensures.value) c.requires.sizes)
+
+pub returns-in-Ok-clause-fits : goal.returns-in-Ok-clause-fits
+returns-in-Ok-clause-fits g c =
+    let head = c.args.head.now in
+    is_namespace g.M.Medium.size head c.replace-media.result.items c.in-Ok.namespace c.requires.head (same_media g.M.Medium.size (ap (λ media. media.items) c.replace-media.ensures.value) c.requires.sizes)
+    c.in-Ok.ensures.media c.in-Ok.ensures.shelf c.in-Ok.ensures.rooms
