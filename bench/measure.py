@@ -1,5 +1,6 @@
 #!/usr/bin/env python3
-"""Runs the proved program on large scripts at three sizes each, and prints seconds and peak memory.
+"""Runs the proved program on large scripts at three sizes each, and prints its processor seconds, those that passed, and
+peak memory.
 
 Usage: bench/measure.py [PROGRAM]
 
@@ -64,7 +65,7 @@ KINDS = [
 
 
 def measure(program, lines):
-    """Seconds, peak kilobytes and exit status of one run, and the bytes of its transcript."""
+    """Processor seconds, seconds, peak kilobytes and exit status of one run, and the bytes of its transcript."""
     blocks, shelf = lines[1].split()[1], lines[2].split()[1]
     with tempfile.TemporaryDirectory() as folder:
         script, text = os.path.join(folder, "script"), os.path.join(folder, "text")
@@ -75,17 +76,18 @@ def measure(program, lines):
             child = subprocess.Popen([program, "run", "serial", blocks, shelf], stdin=source, stdout=sink)
             _, status, usage = os.wait4(child.pid, 0)
             seconds = time.monotonic() - start
-        return seconds, usage.ru_maxrss, os.waitstatus_to_exitcode(status), os.path.getsize(text)
+        processor = usage.ru_utime + usage.ru_stime
+        return processor, seconds, usage.ru_maxrss, os.waitstatus_to_exitcode(status), os.path.getsize(text)
 
 
 def main():
     program = sys.argv[1] if len(sys.argv) > 1 else os.path.join(TOP, "nvmigrate")
     subprocess.run([program, "--version"], check=True, stdout=subprocess.DEVNULL)
-    print(f"{'input':24} {'size':>7} {'seconds':>8} {'peak KiB':>9} {'transcript':>11} status")
+    print(f"{'input':24} {'size':>7} {'processor':>9} {'seconds':>8} {'peak KiB':>9} {'transcript':>11} status")
     for name, make, sizes in KINDS:
         for size in sizes:
-            seconds, peak, status, text = measure(program, make(size))
-            print(f"{name:24} {size:7} {seconds:8.2f} {peak:9} {text:11} {status}")
+            processor, seconds, peak, status, text = measure(program, make(size))
+            print(f"{name:24} {size:7} {processor:9.2f} {seconds:8.2f} {peak:9} {text:11} {status}")
 
 
 if __name__ == "__main__":

@@ -1,10 +1,14 @@
-use Rattle.std.specs.Prelude.{◌≡◌, ℕ, Bool, true, false, List, Option, Some, None}
+use Rattle.std.specs.Prelude.{◌≡◌, ◌⊎◌, ℕ, Bool, true, false, List, Option, Some, None}
 use Rattle.mig_base.specs.Count.{RisesBy}
 use Rattle.nvm_model.specs.declared.script.Script.{Script}
-use Rattle.nvm_model.specs.ScriptText.{script_text}
+use Rattle.nvm_model.specs.ScriptText.{IsScript}
+use Rattle.mig_base.specs.Stream.{IsCut, with_more}
+use Rattle.script.specs.BadLine.{IsBadLine}
+use Rattle.script.specs.declared.refusal.Why.{Why}
+use Rattle.show.specs.ShowText.{show_text}
 use Rattle.engine.specs.declared.status.Status.{Status}
 use Rattle.engine.specs.declared.status.Status.TheVariants.{Done, Usage, BadScript, TooLong, OutOfMemory, HostSize, ReadFault, WriteFault, GaveUp}
-use Rattle.engine.specs.Built.{IsTaken, SpellsOne, SpellsNone, IsTooLong}
+use Rattle.engine.specs.Built.{Spells, SpellsOne, SpellsNone, TellsBadLine, TellsUnbuilt, IsTooLong}
 use Rattle.engine.specs.Sizes.{Differ}
 use Rattle.engine.specs.Words.{IsForm, IsNoForm}
 
@@ -12,7 +16,7 @@ use Rattle.engine.specs.Words.{IsForm, IsNoForm}
 
 -- why no script was read, of an input whose bytes may be told and whose faults are counted
 abbrev pub IsReadRefusal : Option (List ℕ) → ℕ → ℕ → Status → Type 0
-IsReadRefusal told before now (BadScript line why) = SpellsNone told
+IsReadRefusal told before now (BadScript line why) = TellsBadLine told line why
 IsReadRefusal told before now TooLong = IsTooLong told
 IsReadRefusal told before now ReadFault = RisesBy 1 before now
 IsReadRefusal told before now OutOfMemory = Unit {0}
@@ -24,7 +28,7 @@ IsReadRefusal told before now WriteFault = ⊥
 
 -- why a text gives no script
 abbrev pub IsNoScript : List ℕ → Status → Type 0
-IsNoScript text (BadScript line why) = (s : Script) → IsTaken s → text ≡ script_text s → ⊥
+IsNoScript text (BadScript line why) = IsBadLine text (record { line = line; why = why })
 IsNoScript text OutOfMemory = Unit {0}
 IsNoScript text TooLong = ⊥
 IsNoScript text ReadFault = ⊥
@@ -86,6 +90,39 @@ IsBadScript told Usage = Unit {0}
 IsBadScript told TooLong = Unit {0}
 IsBadScript told OutOfMemory = Unit {0}
 IsBadScript told ReadFault = Unit {0}
+
+-- of an answer that the script is bad: the line that it tells, and the cause
+abbrev pub OnBadScript : Status → (ℕ → Why → Type 0) → Type 0
+OnBadScript (BadScript line why) P = P line why
+OnBadScript Done P = Unit {0}
+OnBadScript GaveUp P = Unit {0}
+OnBadScript (HostSize kept asked) P = Unit {0}
+OnBadScript WriteFault P = Unit {0}
+OnBadScript Usage P = Unit {0}
+OnBadScript TooLong P = Unit {0}
+OnBadScript OutOfMemory P = Unit {0}
+OnBadScript ReadFault P = Unit {0}
+
+-- the line that is told of a script that was to be run: the first that isn't right, or the first that asks for what
+-- isn't built
+abbrev pub IsBadRun : Option (List ℕ) → Status → Type 0
+IsBadRun told status = OnBadScript status (λ line why. TellsBadLine told line why ⊎ TellsUnbuilt told line why)
+
+-- the input spelled a script, of which P holds
+abbrev pub SpellsScript : Option (List ℕ) → (Script → Type 0) → Type 0
+SpellsScript told P = (s : Script) × IsScript s × Spells told s × P s
+
+-- what was written where a script was shown: its plan, or a front of it where the output failed
+abbrev pub IsShown : Option (List ℕ) → Option (List ℕ) → Option (List ℕ) → Status → Type 0
+IsShown told before after Done = SpellsScript told (λ s. after ≡ with_more (show_text s) before)
+IsShown told before after WriteFault = SpellsScript told (λ s. IsCut (show_text s) before after)
+IsShown told before after (BadScript line why) = TellsBadLine told line why
+IsShown told before after Usage = ⊥
+IsShown told before after GaveUp = ⊥
+IsShown told before after (HostSize kept asked) = ⊥
+IsShown told before after TooLong = Unit {0}
+IsShown told before after OutOfMemory = Unit {0}
+IsShown told before after ReadFault = Unit {0}
 
 -- `TooLong` only for an input that is too long
 abbrev pub IsLong : Option (List ℕ) → Status → Type 0
@@ -150,17 +187,17 @@ abbrev pub IsBeforeRun : Status → Type 0
 IsBeforeRun Done = ⊥
 IsBeforeRun GaveUp = ⊥
 IsBeforeRun WriteFault = ⊥
-IsBeforeRun Usage = Unit {0}
+IsBeforeRun Usage = ⊥
 IsBeforeRun (BadScript line why) = Unit {0}
 IsBeforeRun TooLong = Unit {0}
 IsBeforeRun OutOfMemory = Unit {0}
 IsBeforeRun (HostSize kept asked) = Unit {0}
 IsBeforeRun ReadFault = Unit {0}
 
--- why nothing was run
-pub record IsRefusal (words : List (List ℕ)) (told : Option (List ℕ)) (before now : ℕ) (from to : List ℕ) (status : Status) : Type 0 where
-  pub usage : IsUsage words status
+-- why nothing was run, where the words ask for a run
+pub record IsRefusal (told : Option (List ℕ)) (before now : ℕ) (from to : List ℕ) (status : Status) : Type 0 where
   pub bad_script : IsBadScript told status
+  pub bad_line : IsBadRun told status
   pub too_long : IsLong told status
   pub host_size : IsHostSize told from to status
   pub read_fault : IsReadFault before now status

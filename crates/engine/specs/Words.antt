@@ -1,4 +1,6 @@
-use Rattle.std.specs.Prelude.{◌≡◌, ℕ, ◌*◌, ◌≤◌, List, [], ◌∷◌, codes, decimal}
+use Rattle.std.specs.Prelude.{◌≡◌, ◌⊎◌, ℕ, ◌*◌, ◌≤◌, List, [], ◌∷◌, codes, decimal}
+use Rattle.engine.specs.declared.words.Form.{Form}
+use Rattle.engine.specs.declared.words.Form.TheVariants.{RunSerial, Show}
 
 -- The words `run serial BLOCKS SHELF`, with a namespace of so many blocks in at most 64 shelves of so many.
 pub record IsRunSerial (words : List (List ℕ)) (blocks shelf : ℕ) : Type 0 where
@@ -15,9 +17,25 @@ pub record AreSizes (blocks_word shelf_word : List ℕ) (blocks shelf : ℕ) : T
   pub shelf_fits : (1 ≤ shelf) × (shelf ≤ 65536)
   pub shelves : (n : ℕ) × (n ≤ 64) × (blocks ≡ n * shelf)
 
--- words of a form that runs a script, and words of no form
+-- the word `show`
+abbrev pub IsShow : List (List ℕ) → Type 0
+IsShow words = words ≡ codes "show" ∷ []
+
+-- words of a form, and words of none
 abbrev pub IsForm : List (List ℕ) → Type 0
-IsForm words = (blocks : ℕ) × (shelf : ℕ) × IsRunSerial words blocks shelf
+IsForm words = ((blocks : ℕ) × (shelf : ℕ) × IsRunSerial words blocks shelf) ⊎ IsShow words
 
 abbrev pub IsNoForm : List (List ℕ) → Type 0
-IsNoForm words = (blocks shelf : ℕ) → IsRunSerial words blocks shelf → ⊥
+IsNoForm words = ((blocks shelf : ℕ) → IsRunSerial words blocks shelf → ⊥) × (IsShow words → ⊥)
+
+-- what holds of a call whose words run a script, and of one whose word shows it
+abbrev pub IfRuns : List (List ℕ) → Type 0 → Type 0
+IfRuns words claim = (blocks shelf : ℕ) → IsRunSerial words blocks shelf → claim
+
+abbrev pub IfShows : List (List ℕ) → Type 0 → Type 0
+IfShows words claim = IsShow words → claim
+
+-- what the words are, by what they ask for
+abbrev pub HasForm : Form → List (List ℕ) → Type 0
+HasForm RunSerial words = ((blocks : ℕ) × (shelf : ℕ) × IsRunSerial words blocks shelf) × (IsShow words → ⊥)
+HasForm Show words = IsShow words × ((blocks shelf : ℕ) → IsRunSerial words blocks shelf → ⊥)

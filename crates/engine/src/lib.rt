@@ -7,6 +7,7 @@ mod free_gate;
 mod hosts;
 mod reading;
 mod room;
+mod showing;
 mod status;
 mod top;
 mod words;

@@ -1,13 +1,14 @@
 // The script, out of the input.
 ghost use Rattle.std.specs.Prelude.{◌≡◌, ◌≤◌, true, false, length, IfOk, IfErr, IfSome, IfNone};
+ghost use Rattle.nvm_model.specs.declared.script.Script.{Script};
 ghost use Rattle.nvm_model.specs.World.{window_pages};
-ghost use Rattle.nvm_model.specs.ScriptText.{script_text};
-ghost use Rattle.engine.specs.Built.{IsBuilt, IsTaken, Spells};
+ghost use Rattle.nvm_model.specs.ScriptText.{IsScript, script_text};
+ghost use Rattle.engine.specs.Built.{IsBuilt, IsUnbuilt, Spells, SpellsOnly};
 ghost use Rattle.engine.specs.Claims.{IsReadRefusal, IsNoScript};
 
 use crate::Status;
 use mig_base::{CollectRefusal, Source, collect};
-use script::{BadLine, Head, ParseRefusal, Script, Why, parse};
+use script::{BadLine, Head, ParseRefusal, Script, parse};
 use std::alloc::Global;
 
 /// The longest input that is read, in bytes.
@@ -19,8 +20,9 @@ const MOST_BYTES: usize = 4_194_304;
 ///
 /// The status that the program ends with: a fault of the input, an input that is too long, no script, or no memory.
 pub(crate) fn read_script<S: Source>(alloc: Global, input: &mut S) -> Result<Script, Status>
-    ensures taken { IfOk result IsTaken }
+    ensures script { IfOk result IsScript }
     ensures spells { IfOk result (Spells (S.left input.old)) }
+    ensures only { IfOk result (SpellsOnly (S.left input.old)) }
     ensures refusal { IfErr result (IsReadRefusal (S.left input.old) (S.faults input.old) (S.faults input.new)) }
 {
     match collect(alloc, input, MOST_BYTES) {
@@ -31,33 +33,25 @@ pub(crate) fn read_script<S: Source>(alloc: Global, input: &mut S) -> Result<Scr
     }
 }
 
-/// The script that a text spells, if it is one that is taken.
+/// The script that a text spells.
 fn take_script(alloc: Global, text: &[u8]) -> Result<Script, Status>
     requires { length text.now ≤ 4194304 }
-    ensures taken { IfOk result IsTaken }
+    ensures script { IfOk result IsScript }
     ensures spells { IfOk result (λ s. text.now ≡ script_text s) }
+    ensures only { IfOk result (λ s. (other : Script) → IsScript other → text.now ≡ script_text other → s ≡ other) }
     ensures refusal { IfErr result (IsNoScript text.now) }
 {
-    let script = match parse(alloc, text) {
-        Ok(script) => script,
-        Err(ParseRefusal::Bad(BadLine { line, why })) => {
-            return Err(Status::BadScript { line, why });
-        }
-        Err(ParseRefusal::OutOfMemory) => return Err(Status::OutOfMemory),
-    };
-    match unbuilt_line(&script.head) {
-        None => Ok(script),
-        Some(line) => Err(Status::BadScript {
-            line,
-            why: Why::Range,
-        }),
+    match parse(alloc, text) {
+        Ok(script) => Ok(script),
+        Err(ParseRefusal::Bad(BadLine { line, why })) => Err(Status::BadScript { line, why }),
+        Err(ParseRefusal::OutOfMemory) => Err(Status::OutOfMemory),
     }
 }
 
 /// The first line of the head that asks for what isn't built yet.
-fn unbuilt_line(head: &Head) -> Option<u32>
+pub(crate) fn unbuilt_line(head: &Head) -> Option<u32>
     ensures built { IfNone result (IsBuilt head.now) }
-    ensures unbuilt { IfSome result (λ _. IsBuilt head.now → ⊥) }
+    ensures unbuilt { IfSome result (IsUnbuilt head.now) }
 {
     if head.lanes != 1 {
         Some(4)

@@ -8,6 +8,7 @@ use std::test::Fail;
 use std::thread::Threads;
 
 mod rows;
+mod shows;
 
 /// The sizes of the smallest run: 16 blocks in one shelf, one lane.
 const SIZES: &str = "nvmigrate script 1\nblocks 16\nshelf 16\nlanes 1\nlane 1 sq 4 cq 4 pages 2\n";
@@ -220,7 +221,7 @@ struct Left {
     to: Host<MemMedium>,
 }
 
-fn words(alloc: Global, list: [&str; 4]) -> Result<Vec<String>, AllocError> {
+fn words(alloc: Global, list: &[&str]) -> Result<Vec<String>, AllocError> {
     let mut words = Vec::new(alloc);
     for word in list {
         words.push(word.to_string(alloc)?)?;
@@ -256,7 +257,7 @@ fn host(
     })
 }
 
-/// Calls the top call.
+/// Calls the top call, to run a script.
 fn called<R: Threads + Sync>(
     rt: &R,
     alloc: Global,
@@ -264,7 +265,18 @@ fn called<R: Threads + Sync>(
     given: Given<'_>,
 ) -> Result<Left, Fail> {
     let [blocks, shelf] = given.sizes;
-    let words = words(alloc, ["run", "serial", blocks, shelf])?;
+    called_by(rt, alloc, &["run", "serial", blocks, shelf], script, given)
+}
+
+/// Calls the top call with these words.
+fn called_by<R: Threads + Sync>(
+    rt: &R,
+    alloc: Global,
+    list: &[&str],
+    script: Vec<u8>,
+    given: Given<'_>,
+) -> Result<Left, Fail> {
+    let words = words(alloc, list)?;
     let mut input = BytesSource::make(script, 4096, given.failing_reads.to_vec(alloc)?);
     let made = BytesSink::make(alloc, 4096, given.failing_writes.to_vec(alloc)?);
     let mut output = made.map_err(|_| "no sink")?;
@@ -511,11 +523,13 @@ fn statuses(rt: HostRuntime) -> Result<(), Fail> {
 
 #[test]
 fn forms(rt: HostRuntime) -> Result<(), Fail> {
-    let good = words(rt.alloc(), ["run", "serial", "32", "16"])?;
-    let zero = words(rt.alloc(), ["run", "serial", "032", "16"])?;
-    let part = words(rt.alloc(), ["run", "serial", "32", "15"])?;
+    let good = words(rt.alloc(), &["run", "serial", "32", "16"])?;
+    let zero = words(rt.alloc(), &["run", "serial", "032", "16"])?;
+    let part = words(rt.alloc(), &["run", "serial", "32", "15"])?;
     assert!(rt; geometry(&good) == Some((32, 16)));
     assert!(rt; geometry(&zero) == None && geometry(&part) == None);
     assert!(rt; geometry(&good[1..]) == None);
+    let show = words(rt.alloc(), &["show"])?;
+    assert!(rt; geometry(&show) == None);
     Ok(())
 }

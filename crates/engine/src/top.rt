@@ -8,28 +8,31 @@ ghost use Rattle.session.specs.Shelves.{IsNamespaceOf};
 ghost use Rattle.engine.specs.Ended.{HasBroken, HasEnded, OnFailed, OnNoMemory, all_told};
 ghost use Rattle.engine.specs.Room.{IsRoom};
 ghost use Rattle.engine.specs.Built.{IsTaken, Spells};
-ghost use Rattle.engine.specs.Claims.{IsBadScript, IsHostSize, IsLong, IsReadFault, IsRefusal, IsUsage, IsWriteFault, OnEnded, OnRefused, OnWriteFault, is_gave_up};
+ghost use Rattle.engine.specs.Claims.{IsBadRun, IsBadScript, IsHostSize, IsLong, IsReadFault, IsRefusal, IsShown, IsUsage, IsWriteFault, OnEnded, OnRefused, OnWriteFault, is_gave_up};
 ghost use Rattle.engine.specs.Headline.{Began, HostsHold, Ran, whole_memory};
 ghost use Rattle.engine.specs.Sizes.{HaveSizes, sizes_of, first_difference};
-ghost use Rattle.engine.specs.Words.{IsForm};
+ghost use Rattle.engine.specs.Words.{IfRuns, IfShows};
 
 use crate::Status;
 use crate::hosts::{give_back, host_difference, take_namespaces};
-use crate::reading::read_script;
+use crate::reading::{read_script, unbuilt_line};
 use crate::room::{Room, make_room};
-use crate::words::geometry;
+use crate::showing::show_script;
+use crate::words::{Form, asked_form};
 use guest_ram::Host;
 use mig_base::{Failed, Gate, OutOfMemory, Sink, Source};
 use mig_medium::Medium;
 use nvm_blocks::Namespace;
-use script::Script;
+use script::{Script, Why};
 use session::{Ending, run};
 use std::alloc::Global;
 use std::thread::Threads;
 
-/// Runs the script in the input over the hosts, as the words say, and writes the transcript.
+/// Does what the words say with the script in the input: `run serial BLOCKS SHELF` runs it over the hosts and writes the
+/// transcript, and `show` writes what it asks for and the Identify data that its guests see.
 ///
-/// All memory is taken before the first line. Where nothing was run, nothing was written, and both hosts are as they were.
+/// A run takes all its memory before its first line. Where nothing was run, nothing was written, and both hosts are as
+/// they were.
 pub fn nvmigrate<R: Threads + Sync, S: Source, K: Sink, M: Medium + Send, G: Gate>(
     rt: &R,
     alloc: Global,
@@ -41,37 +44,47 @@ pub fn nvmigrate<R: Threads + Sync, S: Source, K: Sink, M: Medium + Send, G: Gat
     gate: &G,
 ) -> Status
     // The text is a whole transcript for the script that the input spelled, and its events are a legal history.
-    ensures history { OnEnded result (Ran (S.left input.old) (joined (map M.blocks from.old.shelves.items)) (joined (map M.blocks to.old.shelves.items)) (K.bytes output.old) (K.bytes output.new)
-        (λ script blocks lines world. Unit {0})) }
+    ensures history { IfRuns (map string_bytes words.now) (OnEnded result (Ran (S.left input.old) (joined (map M.blocks from.old.shelves.items)) (joined (map M.blocks to.old.shelves.items)) (K.bytes output.old) (K.bytes output.new)
+        (λ script blocks lines world. Unit {0}))) }
     // Each guest did its acts, and each of its commands was fetched, done, posted and reaped.
-    ensures complete { OnEnded result (Ran (S.left input.old) (joined (map M.blocks from.old.shelves.items)) (joined (map M.blocks to.old.shelves.items)) (K.bytes output.old) (K.bytes output.new)
-        (λ script blocks lines world. Complete script world)) }
+    ensures complete { IfRuns (map string_bytes words.now) (OnEnded result (Ran (S.left input.old) (joined (map M.blocks from.old.shelves.items)) (joined (map M.blocks to.old.shelves.items)) (K.bytes output.old) (K.bytes output.new)
+        (λ script blocks lines world. Complete script world))) }
     // Where the guest was moved, the source holds the blocks and the data pages of the world then, and the destination
     // those of the world at the end. Where it wasn't, the source holds these.
-    ensures hosts { OnEnded result (Ran (S.left input.old) (joined (map M.blocks from.old.shelves.items)) (joined (map M.blocks to.old.shelves.items)) (K.bytes output.old) (K.bytes output.new)
+    ensures hosts { IfRuns (map string_bytes words.now) (OnEnded result (Ran (S.left input.old) (joined (map M.blocks from.old.shelves.items)) (joined (map M.blocks to.old.shelves.items)) (K.bytes output.old) (K.bytes output.new)
         (λ script blocks lines world. HostsHold script blocks lines world
-        (map M.blocks from.new.shelves.items) (whole_memory from.new.ram) (map M.blocks to.new.shelves.items) (whole_memory to.new.ram))) }
+        (map M.blocks from.new.shelves.items) (whole_memory from.new.ram) (map M.blocks to.new.shelves.items) (whole_memory to.new.ram)))) }
     // Each fault that a line shows, and a migration that was given up, has a failed call of a medium.
-    ensures faults { OnEnded result (Ran (S.left input.old) (joined (map M.blocks from.old.shelves.items)) (joined (map M.blocks to.old.shelves.items)) (K.bytes output.old) (K.bytes output.new)
+    ensures faults { IfRuns (map string_bytes words.now) (OnEnded result (Ran (S.left input.old) (joined (map M.blocks from.old.shelves.items)) (joined (map M.blocks to.old.shelves.items)) (K.bytes output.old) (K.bytes output.new)
         (λ script blocks lines world. RiseBy (faults_shown lines)
-        (map M.faults from.old.shelves.items ++ map M.faults to.old.shelves.items) (map M.faults from.new.shelves.items ++ map M.faults to.new.shelves.items))) }
+        (map M.faults from.old.shelves.items ++ map M.faults to.old.shelves.items) (map M.faults from.new.shelves.items ++ map M.faults to.new.shelves.items)))) }
     // The answer says that the migration was given up exactly where the text does.
-    ensures gave_up { OnEnded result (Ran (S.left input.old) (joined (map M.blocks from.old.shelves.items)) (joined (map M.blocks to.old.shelves.items)) (K.bytes output.old) (K.bytes output.new)
-        (λ script blocks lines world. has_given_up lines ≡ is_gave_up result)) }
+    ensures gave_up { IfRuns (map string_bytes words.now) (OnEnded result (Ran (S.left input.old) (joined (map M.blocks from.old.shelves.items)) (joined (map M.blocks to.old.shelves.items)) (K.bytes output.old) (K.bytes output.new)
+        (λ script blocks lines world. has_given_up lines ≡ is_gave_up result))) }
     // Where the output failed, a front of the text of such a run was written.
-    ensures sink { OnWriteFault result (Began (S.left input.old) (joined (map M.blocks from.old.shelves.items)) (joined (map M.blocks to.old.shelves.items)) (K.bytes output.old) (K.bytes output.new)
+    ensures sink { IfRuns (map string_bytes words.now) (OnWriteFault result (Began (S.left input.old) (joined (map M.blocks from.old.shelves.items)) (joined (map M.blocks to.old.shelves.items)) (K.bytes output.old) (K.bytes output.new)
         (λ script blocks lines world. Complete script world × RiseBy (faults_shown lines)
-        (map M.faults from.old.shelves.items ++ map M.faults to.old.shelves.items) (map M.faults from.new.shelves.items ++ map M.faults to.new.shelves.items))) }
+        (map M.faults from.old.shelves.items ++ map M.faults to.old.shelves.items) (map M.faults from.new.shelves.items ++ map M.faults to.new.shelves.items)))) }
     ensures before_run { OnRefused result ((K.bytes output.new ≡ K.bytes output.old)
         × (map M.blocks from.new.shelves.items ≡ map M.blocks from.old.shelves.items) × (map M.blocks to.new.shelves.items ≡ map M.blocks to.old.shelves.items)) }
     ensures usage { IsUsage (map string_bytes words.now) result }
-    ensures bad_script { IsBadScript (S.left input.old) result }
+    ensures bad_script { IfRuns (map string_bytes words.now) (IsBadScript (S.left input.old) result) }
+    // The line and the cause that it tells are those of the first line that isn't right.
+    ensures bad_line { IfRuns (map string_bytes words.now) (IsBadRun (S.left input.old) result) }
+    // The word `show`: the output took the script's plan, or a front of it, and neither host was touched.
+    ensures shown { IfShows (map string_bytes words.now) (IsShown (S.left input.old) (K.bytes output.old) (K.bytes output.new) result) }
+    ensures untouched { IfShows (map string_bytes words.now) ((from.new ≡ from.old) × (to.new ≡ to.old)) }
     ensures too_long { IsLong (S.left input.old) result }
-    ensures host_size { IsHostSize (S.left input.old) (map M.size from.old.shelves.items) (map M.size to.old.shelves.items) result }
+    ensures host_size { IfRuns (map string_bytes words.now) (IsHostSize (S.left input.old) (map M.size from.old.shelves.items) (map M.size to.old.shelves.items) result) }
     ensures read_fault { IsReadFault (S.faults input.old) (S.faults input.new) result }
     ensures write_fault { IsWriteFault (K.faults output.old) (K.faults output.new) result }
 {
-    let (script, room) = match prepare(alloc, words, input, from, to) {
+    match asked_form(words) {
+        None => return Status::Usage,
+        Some(Form::Show) => return show_script(alloc, input, output),
+        Some(Form::RunSerial) => {}
+    }
+    let (script, room) = match prepare(alloc, input, from, to) {
         Ok(ready) => ready,
         Err(status) => return status,
     };
@@ -86,27 +99,27 @@ pub fn nvmigrate<R: Threads + Sync, S: Source, K: Sink, M: Medium + Send, G: Gat
 /// All that comes before the first line: the script, hosts that fit, and the room of a run.
 fn prepare<S: Source, M: Medium>(
     alloc: Global,
-    words: &[String],
     input: &mut S,
     from: &Host<M>,
     to: &Host<M>,
 ) -> Result<(Script, Room), Status>
-    ensures form { IfOk result (λ r. IsForm (map string_bytes words.now)) }
     ensures taken { IfOk result (λ r. IsTaken r.0) }
     ensures spelled { IfOk result (λ r. Spells (S.left input.old) r.0) }
     ensures room { IfOk result (λ r. IsRoom r.0 r.1) }
     ensures sizes { IfOk result (λ r. HaveSizes r.0 (map M.size from.now.shelves.items) (map M.size to.now.shelves.items)) }
-    ensures refusal { IfErr result (IsRefusal (map string_bytes words.now) (S.left input.old) (S.faults input.old) (S.faults input.new)
+    ensures refusal { IfErr result (IsRefusal (S.left input.old) (S.faults input.old) (S.faults input.new)
         (map M.size from.now.shelves.items) (map M.size to.now.shelves.items)) }
 {
-    match geometry(words) {
-        Some(_) => {}
-        None => return Err(Status::Usage),
-    }
     let script = match read_script(alloc, input) {
         Ok(script) => script,
         Err(status) => return Err(status),
     };
+    if let Some(line) = unbuilt_line(&script.head) {
+        return Err(Status::BadScript {
+            line,
+            why: Why::Range,
+        });
+    }
     if let Some((kept, asked)) = hosts_difference(&script, from, to) {
         return Err(Status::HostSize { kept, asked });
     }

@@ -1,8 +1,36 @@
 // The words of the command line.
 ghost use Rattle.std.specs.Prelude.{◌≡◌, ◌≢◌, ◌*◌, ◌^◌, ◌<◌, ◌≤◌, ℕ, [], true, false, map, length, slice_index_or, IfSome, IfNone, decimal, string_bytes};
-ghost use Rattle.engine.specs.Words.{IsRunSerial, AreSizes};
+ghost use Rattle.engine.specs.Words.{IsRunSerial, IsShow, IsNoForm, HasForm, AreSizes};
 
 use itoa::Buffer;
+
+/// What the words ask for.
+#[derive(Clone, Copy)]
+pub(crate) enum Form {
+    RunSerial,
+    Show,
+}
+
+/// The form of the words; `None` for every list of words that is none.
+pub(crate) fn asked_form(words: &[String]) -> Option<Form>
+    ensures form { IfSome result (λ f. HasForm f (map string_bytes words.now)) }
+    ensures none { IfNone result (IsNoForm (map string_bytes words.now)) }
+{
+    if is_show(words) {
+        return Some(Form::Show);
+    }
+    match geometry(words) {
+        Some(_) => Some(Form::RunSerial),
+        None => None,
+    }
+}
+
+fn is_show(words: &[String]) -> bool
+    ensures yes { result ≡ true → IsShow (map string_bytes words.now) }
+    ensures no { result ≡ false → IsShow (map string_bytes words.now) → ⊥ }
+{
+    words.len() == 1 && is_word(word(words, 0), "show")
+}
 
 /// The blocks and the shelf of a form of words that runs a script; `None` for every other list of words.
 pub fn geometry(words: &[String]) -> Option<(u32, u32)>

@@ -10,6 +10,9 @@ nvmigrate run serial BLOCKS SHELF
     and writes the transcript to standard output. BLOCKS is from 1 to 131072,
     SHELF from 1 to 65536, SHELF divides BLOCKS, and there are at most 64
     shelves.
+nvmigrate show
+    reads a script from standard input, and writes what it asks for and the
+    Identify data that its guests see. Nothing is run.
 nvmigrate --help
     writes this text.
 nvmigrate --version

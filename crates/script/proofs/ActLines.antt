@@ -109,18 +109,18 @@ pub record AreBytes (room : ℕ) (text bytes rest : List ℕ) : Type 0 where
   pub fit : AllByRecursion (λ b. b < 2 ^ 8) bytes
   pub few : length bytes ≤ room
 
-bytes_take : (room : ℕ) (text : List ℕ) → AreBytes room text (bytes_at room text).0 (bytes_at room text).1
+pub bytes_take : (room : ℕ) (text : List ℕ) → AreBytes room text (bytes_at room text).0 (bytes_at room text).1
 bytes_take room text =
     let xs = (bytes_at room text).0 in
     let m = many_take byte_at hex (λ b. b < 2 ^ 8) Anything bytes_spelled room text (each_is_anything xs) in
     record { parts = m.parts ∙ ap (λ (t : List ℕ). t ++ (bytes_at room text).1) (flat_map-hex xs); fit = m.fit; few = m.few }
 
-no_byte : (rest : List ℕ) → byte_at (10 ∷ rest) ≡ Err Form
+pub no_byte : (rest : List ℕ) → byte_at (10 ∷ rest) ≡ Err Form
 unfolding byte_at
 no_byte [] = refl
 no_byte (low ∷ rest) = refl
 
-bytes_read : (room : ℕ) (bytes rest : List ℕ) → length bytes ≤ room → AllByRecursion (λ b. b < 2 ^ 8) bytes → bytes_at room (encode_lower bytes ++ 10 ∷ rest) ≡ (bytes, 10 ∷ rest)
+pub bytes_read : (room : ℕ) (bytes rest : List ℕ) → length bytes ≤ room → AllByRecursion (λ b. b < 2 ^ 8) bytes → bytes_at room (encode_lower bytes ++ 10 ∷ rest) ≡ (bytes, 10 ∷ rest)
 bytes_read room bytes rest few fit =
     ap (λ (t : List ℕ). bytes_at room (t ++ 10 ∷ rest)) (sym (flat_map-hex bytes))
     ∙ many_again byte_at hex (λ b. b < 2 ^ 8) Anything bytes_again bytes room (10 ∷ rest) Form few fit tt (no_byte rest)
@@ -129,7 +129,7 @@ poke_whole : (a p q h text r0 r1 r2 rest : List ℕ) → text ≡ p ++ r0 → r0
 poke_whole a p q h text r0 r1 r2 rest e0 e1 e2 e3 = rw (e0, e1, e2, e3) (simp append_assoc)
 
 -- the bytes, and zeros up to 32
-abbrev filled : List ℕ → List ℕ
+abbrev pub filled : List ℕ → List ℕ
 filled bytes = bytes ++ drop (length bytes) (replicate 32 0)
 
 poke_fits : (pages page at : ℕ) (bytes : List ℕ) → page < pages → at + length bytes ≤ 4096 → 1 ≤ length bytes → length bytes ≤ 32 → AllByRecursion (λ b. b < 2 ^ 8) bytes → IsAct pages (Poke page at (filled bytes) (length bytes))
@@ -141,7 +141,7 @@ poke_fits pages page at bytes there within some few fit =
     let whole : filled bytes ≡ take (length bytes) (filled bytes) ++ replicate (32 - length bytes) 0 = ap (λ (z : List ℕ). bytes ++ z) zeros-are ∙ ap (λ (b : List ℕ). b ++ replicate (32 - length bytes) 0) (sym front) in
     (there, within, some, few, All-append (λ b. b < 2 ^ 8) bytes zeros (All-from_recursion (λ b. b < 2 ^ 8) bytes fit) (All-drop (λ b. b < 2 ^ 8) (length bytes) (replicate 32 0) (All-replicate (λ b. b < 2 ^ 8) 32 0 (omega arith))), whole, sized)
 
-some_from : (n : ℕ) → n ≢ 0 → 1 ≤ n
+pub some_from : (n : ℕ) → n ≢ 0 → 1 ≤ n
 some_from zero h = absurd (h refl)
 some_from (suc n) h = omega arith
 
@@ -236,7 +236,7 @@ pages_again pages (p ∷ ps) fit =
     (bind_step (pages_in pages (within_all ps)) _ ps (Ok (p ∷ ps)) (pages_again pages ps fit.1) refl)
 
 -- the numbers behind their spaces
-abbrev listed : List ℕ → List ℕ
+abbrev pub listed : List ℕ → List ℕ
 listed ps = flat_map (λ p. 32 ∷ decimal p) ps
 
 listed_is : (ps : List ℕ) → flat_map spaced (within_all ps) ≡ listed ps
@@ -268,7 +268,7 @@ listed_take room text ps rest e =
     let same = length-within_all ps in
     record { parts = parts ∙ ap (λ (t : List ℕ). t ++ rest) (listed_is ps); few = omega (arith, same) }
 
-no_number : (rest : List ℕ) → spaced_at (10 ∷ rest) ≡ Err Form
+pub no_number : (rest : List ℕ) → spaced_at (10 ∷ rest) ≡ Err Form
 unfolding spaced_at word_at
 no_number rest = refl
 
@@ -279,7 +279,7 @@ listed_read pages room ps rest small few fit =
     ∙ many_again spaced_at spaced IsWithin BeginsNoDigit numbers_again (within_all ps) room (10 ∷ rest) Form (omega (arith, same)) (all_within pages ps small fit) (record { end = 10; rest = rest; is = refl; no_digit = refl }) (no_number rest)
 
 -- the pages, and zeros up to 8
-abbrev padded : List ℕ → List ℕ
+abbrev pub padded : List ℕ → List ℕ
 padded ps = ps ++ replicate (8 - length ps) 0
 
 list_whole : (a p q text r0 r1 rest : List ℕ) → text ≡ p ++ r0 → r0 ≡ q ++ r1 → r1 ≡ (10 ∷ []) ++ rest → a ++ text ≡ (a ++ p ++ q ++ 10 ∷ []) ++ rest
@@ -475,7 +475,7 @@ option_again pages end (Some p) rest small ends f =
     ∙ bind_step (number_at text) _ (Within p, end ∷ rest) (Ok (Some (Within p), end ∷ rest)) (number_again p end rest lt ends) refl)
     (bind_step (word_at (end ∷ []) (end ∷ rest)) _ rest made (word_again (end ∷ []) rest) refl)
 
-or_else_ok : {A B : Type 0} (r : Result A Why) (f : A → Result B Why) (other : Result B Why) (y : B) → or_else r f other ≡ Ok y → ((x : A) × (r ≡ Ok x) × (f x ≡ Ok y)) ⊎ (other ≡ Ok y)
+pub or_else_ok : {A B : Type 0} (r : Result A Why) (f : A → Result B Why) (other : Result B Why) (y : B) → or_else r f other ≡ Ok y → ((x : A) × (r ≡ Ok x) × (f x ≡ Ok y)) ⊎ (other ≡ Ok y)
 or_else_ok (Ok x) f other y e = inl (x, refl, e)
 or_else_ok (Err why) f other y e = inr e
 
@@ -484,7 +484,7 @@ op_take : (word text : List ℕ) (op : Op) (x : Op × List ℕ) (rest : List ℕ
 op_take word text op x rest w e g =
     subst (λ (y : Op × List ℕ). text ≡ op_word y.0 ++ y.1) (ok_is {E = Why} (op, rest) x g) (word_takes word text rest e ∙ ap (λ (t : List ℕ). t ++ rest) w)
 
-op_takes : (text : List ℕ) (x : Op × List ℕ) → op_at text ≡ Ok x → text ≡ op_word x.0 ++ x.1
+pub op_takes : (text : List ℕ) (x : Op × List ℕ) → op_at text ≡ Ok x → text ≡ op_word x.0 ++ x.1
 unfolding op_at
 op_takes text x e =
     elim (or_else_ok (word_at (codes "flush ") text) _ _ x e) [
@@ -507,7 +507,7 @@ op_takes text x e =
       ]
     ]
 
-op_again : (op : Op) (rest : List ℕ) → op_at (op_word op ++ rest) ≡ Ok (op, rest)
+pub op_again : (op : Op) (rest : List ℕ) → op_at (op_word op ++ rest) ≡ Ok (op, rest)
 unfolding op_at word_at
 op_again Flush rest = refl
 op_again Write rest = refl

@@ -26,12 +26,12 @@ no_acts room head text = record { few = omega arith; so_far = let e : room - 0 �
 
 -- ---- one step
 
-at_end : (n : ℕ) (head : Head) (rest after : List ℕ) → word_at (codes "end\n") rest ≡ Ok after → acts_at n head rest ≡ Ok ([], after)
+pub at_end : (n : ℕ) (head : Head) (rest after : List ℕ) → word_at (codes "end\n") rest ≡ Ok after → acts_at n head rest ≡ Ok ([], after)
 unfolding acts_at
 at_end zero head rest after e = ap (λ (r : Result (List ℕ) Why). ended_or r (line_at head rest) (λ (a : (ℕ × Act) × List ℕ). Err (told rest Range))) e
 at_end (suc n) head rest after e = ap (λ (r : Result (List ℕ) Why). ended_or r (line_at head rest) (λ (a : (ℕ × Act) × List ℕ). with_first a.0 (acts_at n head a.1))) e
 
-at_fault : (n : ℕ) (head : Head) (rest : List ℕ) (why : Why) (f : Fault) → word_at (codes "end\n") rest ≡ Err why → line_at head rest ≡ Err f → acts_at n head rest ≡ Err f
+pub at_fault : (n : ℕ) (head : Head) (rest : List ℕ) (why : Why) (f : Fault) → word_at (codes "end\n") rest ≡ Err why → line_at head rest ≡ Err f → acts_at n head rest ≡ Err f
 unfolding acts_at
 at_fault zero head rest why f e g =
     ap (λ (r : Result (List ℕ) Why). ended_or r (line_at head rest) (λ (a : (ℕ × Act) × List ℕ). Err (told rest Range))) e
@@ -40,7 +40,7 @@ at_fault (suc n) head rest why f e g =
     ap (λ (r : Result (List ℕ) Why). ended_or r (line_at head rest) (λ (a : (ℕ × Act) × List ℕ). with_first a.0 (acts_at n head a.1))) e
     ∙ ap (λ (r : Result ((ℕ × Act) × List ℕ) Fault). r >>= λ a. with_first a.0 (acts_at n head a.1)) g
 
-at_most : (n : ℕ) (head : Head) (rest : List ℕ) (why : Why) (a : (ℕ × Act) × List ℕ) → n ≡ 0 → word_at (codes "end\n") rest ≡ Err why → line_at head rest ≡ Ok a → acts_at n head rest ≡ Err (told rest Range)
+pub at_most : (n : ℕ) (head : Head) (rest : List ℕ) (why : Why) (a : (ℕ × Act) × List ℕ) → n ≡ 0 → word_at (codes "end\n") rest ≡ Err why → line_at head rest ≡ Ok a → acts_at n head rest ≡ Err (told rest Range)
 unfolding acts_at
 at_most zero head rest why a z e g =
     ap (λ (r : Result (List ℕ) Why). ended_or r (line_at head rest) (λ (a : (ℕ × Act) × List ℕ). Err (told rest Range))) e

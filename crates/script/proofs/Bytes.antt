@@ -27,10 +27,10 @@ all_below-at test (suc n) k h lt =
       | inr top ↦ let e : k ≡ n = omega arith in rw e parts.0
     ]
 
-abbrev glyph : ℕ → ℕ
+abbrev pub glyph : ℕ → ℕ
 glyph v = cond (ltb v 10) (48 + v) (87 + v)
 
-lower-glyph : (v : ℕ) → v < 16 → slice_index lower_digits v ≡ glyph v
+pub lower-glyph : (v : ℕ) → v < 16 → slice_index lower_digits v ≡ glyph v
 lower-glyph v lt = eqb-true (slice_index lower_digits v) (glyph v) (all_below-at (λ k. eqb (slice_index lower_digits k) (glyph k)) 16 v refl lt)
 
 pub record IsDigit (c v : ℕ) : Type 0 where

@@ -83,7 +83,7 @@ pub record IsShelf (blocks : ℕ) (text : List ℕ) (n : ℕ) (rest : List ℕ) 
   pub line : IsKeyed (codes "shelf ") 1 65536 text n rest
   pub shelves : AreShelves blocks n
 
-shelf_takes : (blocks : ℕ) (text : List ℕ) (x : ℕ × List ℕ) → shelf_at blocks text ≡ Ok x → IsShelf blocks text x.0 x.1
+pub shelf_takes : (blocks : ℕ) (text : List ℕ) (x : ℕ × List ℕ) → shelf_at blocks text ≡ Ok x → IsShelf blocks text x.0 x.1
 unfolding shelf_at
 shelf_takes blocks text x e =
     let a = bind_ok (keyed_at (codes "shelf ") 1 65536 text) _ x e in
@@ -92,7 +92,7 @@ shelf_takes blocks text x e =
       | inr h ↦ absurd cc
     ]
 
-shelf_again : (blocks n : ℕ) (rest : List ℕ) → 1 ≤ n → n ≤ 65536 → AreShelves blocks n → shelf_at blocks (keyed (codes "shelf ") n ++ rest) ≡ Ok (n, rest)
+pub shelf_again : (blocks n : ℕ) (rest : List ℕ) → 1 ≤ n → n ≤ 65536 → AreShelves blocks n → shelf_at blocks (keyed (codes "shelf ") n ++ rest) ≡ Ok (n, rest)
 unfolding shelf_at
 shelf_again blocks n rest l h s =
     bind_step (keyed_at (codes "shelf ") 1 65536 (keyed (codes "shelf ") n ++ rest)) _ (n, rest) (Ok (n, rest)) (keyed_again (codes "shelf ") 1 65536 n rest (omega arith) l h)
@@ -153,7 +153,7 @@ pub record IsLane (k : ℕ) (text : List ℕ) (set : LaneSet) (rest : List ℕ) 
   pub parts : text ≡ lane_line k set ++ rest
   pub fits : IsSet set
 
-lane_parts : (a b c d e f g h r : List ℕ) → (a ++ b ++ c ++ d ++ e ++ f ++ g ++ h) ++ r ≡ a ++ (b ++ ((c ++ d) ++ ((e ++ f) ++ ((g ++ h) ++ r))))
+pub lane_parts : (a b c d e f g h r : List ℕ) → (a ++ b ++ c ++ d ++ e ++ f ++ g ++ h) ++ r ≡ a ++ (b ++ ((c ++ d) ++ ((e ++ f) ++ ((g ++ h) ++ r))))
 lane_parts a b c d e f g h r = simp append_assoc
 
 lane_whole : (a k b c d e f g h text r0 r1 r2 r3 r : List ℕ) → k ≡ b → text ≡ a ++ r0 → r0 ≡ b ++ r1 → r1 ≡ (c ++ d) ++ r2 → r2 ≡ (e ++ f) ++ r3 → r3 ≡ (g ++ h) ++ r → text ≡ (a ++ k ++ c ++ d ++ e ++ f ++ g ++ h) ++ r
@@ -164,10 +164,10 @@ abbrev lane_with : List ℕ → LaneSet → List ℕ
 lane_with k set = codes "lane " ++ k ++ codes "sq " ++ field set.sq ++ codes "cq " ++ field set.cq ++ codes "pages " ++ last_field set.pages
 
 -- the number of a lane, which has one digit
-lane_number : (k : ℕ) → k ≤ 8 → field k ≡ (48 + k) ∷ 32 ∷ []
+pub lane_number : (k : ℕ) → k ≤ 8 → field k ≡ (48 + k) ∷ 32 ∷ []
 lane_number k few = ap (λ (x : List ℕ). x ++ 32 ∷ []) (decimal_digit k (omega arith))
 
-lane_takes : (k : ℕ) (text : List ℕ) (x : LaneSet × List ℕ) → k ≤ 8 → lane_at k text ≡ Ok x → IsLane k text x.0 x.1
+pub lane_takes : (k : ℕ) (text : List ℕ) (x : LaneSet × List ℕ) → k ≤ 8 → lane_at k text ≡ Ok x → IsLane k text x.0 x.1
 unfolding lane_at lane_form
 lane_takes k text x few e =
     let a = bind_ok (word_at (codes "lane ") text) _ x (on_line_ok text _ x e) in
@@ -192,7 +192,7 @@ lane_takes k text x few e =
     carried {E = Why} (λ (y : LaneSet × List ℕ). IsLane k text y.0 y.1) made x p.2
     (record { parts = whole; fits = (rs.1, rs.2, rc.1, rc.2, rp.1, rp.2) })
 
-lane_again : (k : ℕ) (set : LaneSet) (rest : List ℕ) → k ≤ 8 → IsSet set → lane_at k (lane_line k set ++ rest) ≡ Ok (set, rest)
+pub lane_again : (k : ℕ) (set : LaneSet) (rest : List ℕ) → k ≤ 8 → IsSet set → lane_at k (lane_line k set ++ rest) ≡ Ok (set, rest)
 unfolding lane_at lane_form
 lane_again k set rest few f =
     let r4 : List ℕ = (codes "pages " ++ last_field set.pages) ++ rest in
@@ -217,7 +217,7 @@ pub record AreLanes (n k : ℕ) (text : List ℕ) (sets : List LaneSet) (rest : 
   pub count : length sets ≡ n
   pub fit : AllByRecursion IsSet sets
 
-lanes_take : (n k : ℕ) (text : List ℕ) (x : List LaneSet × List ℕ) → n + k ≤ 9 → lanes_at n k text ≡ Ok x → AreLanes n k text x.0 x.1
+pub lanes_take : (n k : ℕ) (text : List ℕ) (x : List LaneSet × List ℕ) → n + k ≤ 9 → lanes_at n k text ≡ Ok x → AreLanes n k text x.0 x.1
 unfolding lanes_at
 lanes_take zero k text x few e = subst (λ (y : List LaneSet × List ℕ). AreLanes 0 k text y.0 y.1) (ok_is {E = Fault} ([], text) x e) (record { parts = refl; count = refl; fit = tt })
 lanes_take (suc n) k text x few e =
@@ -229,7 +229,7 @@ lanes_take (suc n) k text x few e =
     carried {E = Fault} (λ (y : List LaneSet × List ℕ). AreLanes (suc n) k text y.0 y.1) made x b.2
     (record { parts = join text (lane_line k a.0.0) a.0.1 (lane_lines (k + 1) b.0.0) b.0.1 first.parts others.parts; count = ap suc others.count; fit = (first.fits, others.fit) })
 
-lanes_again : (sets : List LaneSet) (k : ℕ) (rest : List ℕ) → length sets + k ≤ 9 → AllByRecursion IsSet sets → lanes_at (length sets) k (lane_lines k sets ++ rest) ≡ Ok (sets, rest)
+pub lanes_again : (sets : List LaneSet) (k : ℕ) (rest : List ℕ) → length sets + k ≤ 9 → AllByRecursion IsSet sets → lanes_at (length sets) k (lane_lines k sets ++ rest) ≡ Ok (sets, rest)
 unfolding lanes_at
 lanes_again [] k rest few fit = refl
 lanes_again (set ∷ sets) k rest few fit =
@@ -247,7 +247,7 @@ pub record AreSets (lanes : ℕ) (text : List ℕ) (sets : List LaneSet) (rest :
   pub parts : text ≡ lane_lines 1 (take lanes sets) ++ rest
   pub fits : FitSets lanes sets
 
-are_sets : (lanes : ℕ) (text : List ℕ) (sets : List LaneSet) (rest : List ℕ) → lanes ≤ 8 → AreLanes lanes 1 text sets rest → AreSets lanes text (sets ++ replicate (8 - lanes) no_set) rest
+pub are_sets : (lanes : ℕ) (text : List ℕ) (sets : List LaneSet) (rest : List ℕ) → lanes ≤ 8 → AreLanes lanes 1 text sets rest → AreSets lanes text (sets ++ replicate (8 - lanes) no_set) rest
 are_sets lanes text sets rest few a =
     let zeros : List LaneSet = replicate (8 - lanes) no_set in
     let front : take lanes (sets ++ zeros) ≡ sets = take_at sets zeros lanes a.count in
@@ -261,7 +261,7 @@ are_sets lanes text sets rest few a =
       };
     }
 
-sets_take : (lanes : ℕ) (text : List ℕ) (x : List LaneSet × List ℕ) → lanes ≤ 8 → sets_at lanes text ≡ Ok x → AreSets lanes text x.0 x.1
+pub sets_take : (lanes : ℕ) (text : List ℕ) (x : List LaneSet × List ℕ) → lanes ≤ 8 → sets_at lanes text ≡ Ok x → AreSets lanes text x.0 x.1
 unfolding sets_at
 sets_take lanes text x few e =
     let a = bind_ok (lanes_at lanes 1 text) _ x e in
@@ -269,7 +269,7 @@ sets_take lanes text x few e =
     let made : List LaneSet × List ℕ = (a.0.0 ++ replicate (8 - lanes) no_set, a.0.1) in
     carried {E = Fault} (λ (y : List LaneSet × List ℕ). AreSets lanes text y.0 y.1) made x a.2 (are_sets lanes text a.0.0 a.0.1 few t)
 
-sets_again : (lanes : ℕ) (sets : List LaneSet) (rest : List ℕ) → lanes ≤ 8 → FitSets lanes sets → sets_at lanes (lane_lines 1 (take lanes sets) ++ rest) ≡ Ok (sets, rest)
+pub sets_again : (lanes : ℕ) (sets : List LaneSet) (rest : List ℕ) → lanes ≤ 8 → FitSets lanes sets → sets_at lanes (lane_lines 1 (take lanes sets) ++ rest) ≡ Ok (sets, rest)
 unfolding sets_at
 sets_again lanes sets rest few f =
     let long = f.long in
@@ -293,7 +293,7 @@ pub record ArePace (text : List ℕ) (p : Pace) (rest : List ℕ) : Type 0 where
   pub parts : text ≡ pace_text p ++ rest
   pub fits : FitPace p
 
-pace_takes : (text : List ℕ) (x : Pace × List ℕ) → pace_at text ≡ Ok x → ArePace text x.0 x.1
+pub pace_takes : (text : List ℕ) (x : Pace × List ℕ) → pace_at text ≡ Ok x → ArePace text x.0 x.1
 unfolding pace_at
 pace_takes text x e =
     let b = bind_ok (keyed_at (codes "burst ") 1 64 text) _ x e in
@@ -335,7 +335,7 @@ pub record AreBounds (blocks : ℕ) (text : List ℕ) (b : Bounds) (rest : List 
   pub parts : text ≡ bounds_text b ++ rest
   pub fits : FitBounds blocks b
 
-bounds_take : (blocks : ℕ) (text : List ℕ) (x : Bounds × List ℕ) → bounds_at blocks text ≡ Ok x → AreBounds blocks text x.0 x.1
+pub bounds_take : (blocks : ℕ) (text : List ℕ) (x : Bounds × List ℕ) → bounds_at blocks text ≡ Ok x → AreBounds blocks text x.0 x.1
 unfolding bounds_at
 bounds_take blocks text x e =
     let s = bind_ok (keyed_at (codes "slice ") 1 blocks text) _ x e in
@@ -368,7 +368,7 @@ migrate_by_takes (Ok rest) text x e =
     let made : Option ℕ × List ℕ = (Some a.0.0, a.0.1) in
     carried {E = Fault} (λ (y : Option ℕ × List ℕ). IsMigrate text y.0 y.1) made x a.2 (record { parts = t.parts; fits = (t.low_is, t.high_is) })
 
-migrate_takes : (text : List ℕ) (x : Option ℕ × List ℕ) → migrate_at text ≡ Ok x → IsMigrate text x.0 x.1
+pub migrate_takes : (text : List ℕ) (x : Option ℕ × List ℕ) → migrate_at text ≡ Ok x → IsMigrate text x.0 x.1
 unfolding migrate_at
 migrate_takes text x e = migrate_by_takes (word_at (codes "migrate ") text) text x e
 
@@ -377,7 +377,7 @@ pub record BeginsElse (word text : List ℕ) : Type 0 where
   pub why : Why
   pub other : word_at word text ≡ Err why
 
-migrate_again : (turn : Option ℕ) (rest : List ℕ) → IsTurn turn → BeginsElse (codes "migrate ") rest → migrate_at (migrate_line turn ++ rest) ≡ Ok (turn, rest)
+pub migrate_again : (turn : Option ℕ) (rest : List ℕ) → IsTurn turn → BeginsElse (codes "migrate ") rest → migrate_at (migrate_line turn ++ rest) ≡ Ok (turn, rest)
 unfolding migrate_at
 migrate_again None rest f other = ap (λ (r : Result (List ℕ) Why). migrate_by r rest) other.other
 migrate_again (Some n) rest f other =
@@ -400,7 +400,7 @@ pub record AreLimits (text : List ℕ) (l : Limits) (rest : List ℕ) : Type 0 w
   pub parts : text ≡ limits_text l ++ rest
   pub fits : FitLimits l
 
-limits_take : (text : List ℕ) (x : Limits × List ℕ) → limits_at text ≡ Ok x → AreLimits text x.0 x.1
+pub limits_take : (text : List ℕ) (x : Limits × List ℕ) → limits_at text ≡ Ok x → AreLimits text x.0 x.1
 unfolding limits_at
 limits_take text x e =
     let g = bind_ok (keyed_at (codes "pages ") 1 2064 text) _ x e in
@@ -445,7 +445,7 @@ groups_are z sets p b l =
     (keyed (codes "burst ") p.burst) (keyed (codes "mix ") p.mix) (keyed (codes "change ") p.change) (keyed (codes "slice ") b.slice) (keyed (codes "small ") b.small)
     (keyed (codes "pages ") l.pages) (keyed (codes "patience ") l.patience) (migrate_line l.migrate)
 
-fits_from : (z : Sizes) (sets : List LaneSet) (p : Pace) (b : Bounds) (l : Limits) → FitSizes z → FitSets z.lanes sets → FitPace p → FitBounds z.blocks b → FitLimits l → IsHead (head_of z sets p b l)
+pub fits_from : (z : Sizes) (sets : List LaneSet) (p : Pace) (b : Bounds) (l : Limits) → FitSizes z → FitSets z.lanes sets → FitPace p → FitBounds z.blocks b → FitLimits l → IsHead (head_of z sets p b l)
 fits_from z sets p b l fz fs fp fb fl = record {
   blocks = fz.blocks;
   shelf = fz.shelf;

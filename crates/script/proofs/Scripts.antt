@@ -16,7 +16,7 @@ use Rattle.script.specs.declared.refusal.Why.TheVariants.{Form, Range, More}
 use Rattle.script.specs.declared.refusal.Fault.{Fault}
 use Rattle.script.specs.Reading.{word_at, told}
 use Rattle.script.specs.Lines.{head_at, no_set}
-use Rattle.script.specs.Acts.{line_at, acts_at, ended_or, with_first, push_front, script_at}
+use Rattle.script.specs.Acts.{line_at, acts_at, ended_or, with_first, push_front, front_at, script_at}
 use Rattle.script.proofs.Numbers.{bind_ok, bind_step, ok_is, chosen, word_takes, word_again}
 use Rattle.script.proofs.Heads.{BeginsElse, head_takes, head_again}
 use Rattle.script.proofs.ActLines.{IsLine, line_takes, line_again}
@@ -24,7 +24,7 @@ use Rattle.script.proofs.ActLoop.{at_line}
 
 -- ---- the lanes' pages
 
-set_is : (head : Head) (k : ℕ) → IsHead head → 1 ≤ k → k ≤ head.lanes → IsSet (set_of head k)
+pub set_is : (head : Head) (k : ℕ) → IsHead head → 1 ≤ k → k ≤ head.lanes → IsSet (set_of head k)
 set_is head k f low high =
     let long = f.sets.0 in
     let few = f.lanes.1 in
@@ -33,16 +33,16 @@ set_is head k f low high =
     let there : IsSet (get_or (take head.lanes head.sets) (k - 1) no_set) = All-get_or IsSet (take head.lanes head.sets) (k - 1) no_set (omega (arith, front)) (All-from_recursion IsSet (take head.lanes head.sets) f.sets.1) in
     subst (λ (s : LaneSet). IsSet s) (get_or-take head.lanes head.sets (k - 1) no_set within) there
 
-pages_small : (set : LaneSet) → IsSet set → set.pages < 2 ^ 64
+pub pages_small : (set : LaneSet) → IsSet set → set.pages < 2 ^ 64
 pages_small set f = let few = f.5 in omega arith
 
 -- ---- how lines begin
 
-begins_else : (c : ℕ) (cs : List ℕ) (t : ℕ) (ts : List ℕ) → t ≢ c → BeginsElse (c ∷ cs) (t ∷ ts)
+pub begins_else : (c : ℕ) (cs : List ℕ) (t : ℕ) (ts : List ℕ) → t ≢ c → BeginsElse (c ∷ cs) (t ∷ ts)
 unfolding word_at
 begins_else c cs t ts other = record { why = Form; other = let no : eqb t c ≡ false = ne_eqb t c other in rw no refl }
 
-line_begins : (c : ℕ) (cs : List ℕ) (a : ℕ × Act) (rest : List ℕ) → 57 < c → a.0 ≤ 8 → BeginsElse (c ∷ cs) (act_line a ++ rest)
+pub line_begins : (c : ℕ) (cs : List ℕ) (a : ℕ × Act) (rest : List ℕ) → 57 < c → a.0 ≤ 8 → BeginsElse (c ∷ cs) (act_line a ++ rest)
 line_begins c cs a rest high few =
     let digit : decimal a.0 ≡ (48 + a.0) ∷ [] = decimal_digit a.0 (omega arith) in
     subst (λ (ds : List ℕ). BeginsElse (c ∷ cs) (((ds ++ 32 ∷ []) ++ act_text a.1) ++ rest)) (sym digit)
@@ -77,7 +77,7 @@ acts_more head room text a y x line others same =
       few = omega arith;
     })
 
-acts_take : (head : Head) (room : ℕ) (text : List ℕ) (x : List (ℕ × Act) × List ℕ) → acts_at room head text ≡ Ok x → AreActs head room text x.0 x.1
+pub acts_take : (head : Head) (room : ℕ) (text : List ℕ) (x : List (ℕ × Act) × List ℕ) → acts_at room head text ≡ Ok x → AreActs head room text x.0 x.1
 unfolding acts_at
 acts_take head zero text x e =
     elim (ended_ok (word_at (codes "end\n") text) (line_at head text) _ x e) [
@@ -97,7 +97,7 @@ unfolding acts_at
 at_end zero head rest = ap (λ (r : Result (List ℕ) Why). ended_or r (line_at head (codes "end\n" ++ rest)) (λ (a : (ℕ × Act) × List ℕ). Err (told (codes "end\n" ++ rest) Range))) (word_again (codes "end\n") rest)
 at_end (suc room) head rest = ap (λ (r : Result (List ℕ) Why). ended_or r (line_at head (codes "end\n" ++ rest)) (λ (a : (ℕ × Act) × List ℕ). with_first a.0 (acts_at room head a.1))) (word_again (codes "end\n") rest)
 
-acts_again : (head : Head) (acts : List (ℕ × Act)) (room : ℕ) (rest : List ℕ) → IsHead head → length acts ≤ room → AllByRecursion (IsActLine head) acts
+pub acts_again : (head : Head) (acts : List (ℕ × Act)) (room : ℕ) (rest : List ℕ) → IsHead head → length acts ≤ room → AllByRecursion (IsActLine head) acts
     → acts_at room head ((flat_map act_line acts ++ codes "end\n") ++ rest) ≡ Ok (acts, rest)
 acts_again head [] room rest f few fit = at_end room head rest
 acts_again head (a ∷ acts) zero rest f few fit = absurd (omega arith)
@@ -112,53 +112,76 @@ acts_again head (a ∷ acts) (suc room) rest f few fit =
     ∙ at_line room head (act_line a ++ behind) begins.why (a, behind) begins.other line
     ∙ ap (with_first a) (acts_again head acts room rest f (omega arith) fit.1)
 
--- ---- the whole text
+-- ---- the front of a text
 
-script_whole : (h f e text r0 r : List ℕ) → text ≡ h ++ r0 → r0 ≡ (f ++ e) ++ r → r ≡ [] → text ≡ h ++ f ++ e
-script_whole h f e text r0 r e0 e1 e2 = e0 ∙ ap (λ (x : List ℕ). h ++ x) (e1 ∙ ap (λ (x : List ℕ). (f ++ e) ++ x) e2 ∙ append-nil (f ++ e)) ∙ sym (append_assoc h f e)
-
-pub script_takes : (text : List ℕ) (x : Head × List (ℕ × Act)) → script_at text ≡ Ok x → IsScript (record { head = x.0; acts = x.1 }) × (text ≡ script_text (record { head = x.0; acts = x.1 }))
-unfolding script_at
-script_takes text x e =
-    let h = bind_ok (head_at text) _ x e in
-    let a = bind_ok (acts_at 65536 h.0.0 h.0.1) _ x h.2 in
-    elim (chosen (eqb (length a.0.1) 0) (Ok (h.0.0, a.0.0)) (Err (told a.0.1 More)) (Ok x) a.2) [
-      | inl g ↦
-          let th = head_takes text h.0 h.1 in
-          let ta = acts_take h.0.0 65536 h.0.1 a.0 a.1 in
-          let nothing : a.0.1 ≡ [] = nil_from_length a.0.1 (eqb-true (length a.0.1) 0 g.0) in
-          let whole = script_whole (head_text h.0.0) (flat_map act_line a.0.0) (codes "end\n") text h.0.1 a.0.1 th.parts ta.parts nothing in
-          subst (λ (y : Head × List (ℕ × Act)). IsScript (record { head = y.0; acts = y.1 }) × (text ≡ script_text (record { head = y.0; acts = y.1 }))) (ok_is {E = Fault} (h.0.0, a.0.0) x g.1)
-          (record { head = th.fits; acts = ta.fit; few = ta.few }, whole)
-      | inr g ↦ absurd cc
-    ]
-
-begins_act : (head : Head) (acts : List (ℕ × Act)) → IsHead head → AllByRecursion (IsActLine head) acts → BeginsElse (codes "migrate ") (flat_map act_line acts ++ codes "end\n")
-begins_act head [] f fit = begins_else 109 (codes "igrate ") 101 (codes "nd\n") (λ e. omega arith)
-begins_act head (a ∷ acts) f fit =
+-- acts and the end begin with no move
+begins_body : (acts : List (ℕ × Act)) (head : Head) (rest : List ℕ) → IsHead head → AllByRecursion (IsActLine head) acts → BeginsElse (codes "migrate ") ((flat_map act_line acts ++ codes "end\n") ++ rest)
+begins_body [] head rest f fit = begins_else 109 (codes "igrate ") 101 (codes "nd\n" ++ rest) (λ e. omega arith)
+begins_body (a ∷ acts) head rest f fit =
     let lanes = f.lanes.1 in
     let there = fit.0.1 in
-    subst (λ (t : List ℕ). BeginsElse (codes "migrate ") t) (sym (append_assoc (act_line a) (flat_map act_line acts) (codes "end\n")))
-    (line_begins 109 (codes "igrate ") a (flat_map act_line acts ++ codes "end\n") (omega arith) (omega arith))
+    let behind : List ℕ = (flat_map act_line acts ++ codes "end\n") ++ rest in
+    subst (λ (t : List ℕ). BeginsElse (codes "migrate ") t) (line_parts (act_line a) (flat_map act_line acts) (codes "end\n") rest) (line_begins 109 (codes "igrate ") a behind (omega arith) (omega arith))
+
+abbrev pub script_of : Head × List (ℕ × Act) → Script
+script_of x = record { head = x.0; acts = x.1 }
+
+-- what is read is spelled so and in range
+pub front_takes : (text : List ℕ) (x : (Head × List (ℕ × Act)) × List ℕ) → front_at text ≡ Ok x → IsScript (script_of x.0) × (text ≡ script_text (script_of x.0) ++ x.1)
+unfolding front_at
+front_takes text x e =
+    let h = bind_ok (head_at text) _ x e in
+    let a = bind_ok (acts_at 65536 h.0.0 h.0.1) _ x h.2 in
+    let th = head_takes text h.0 h.1 in
+    let ta = acts_take h.0.0 65536 h.0.1 a.0 a.1 in
+    let parts : text ≡ script_text (script_of (h.0.0, a.0.0)) ++ a.0.1 = th.parts ∙ ap (λ (t : List ℕ). head_text h.0.0 ++ t) ta.parts ∙ line_parts (head_text h.0.0) (flat_map act_line a.0.0) (codes "end\n") a.0.1 in
+    subst (λ (y : (Head × List (ℕ × Act)) × List ℕ). IsScript (script_of y.0) × (text ≡ script_text (script_of y.0) ++ y.1)) (ok_is {E = Fault} ((h.0.0, a.0.0), a.0.1) x a.2)
+    (record { head = th.fits; acts = ta.fit; few = ta.few }, parts)
+
+-- what is spelled so and in range is read, whatever follows
+pub front_again : (s : Script) (rest : List ℕ) → IsScript s → front_at (script_text s ++ rest) ≡ Ok ((s.head, s.acts), rest)
+unfolding front_at
+front_again s rest f =
+    let behind : List ℕ = (flat_map act_line s.acts ++ codes "end\n") ++ rest in
+    let made : Result ((Head × List (ℕ × Act)) × List ℕ) Fault = Ok ((s.head, s.acts), rest) in
+    ap front_at (sym (line_parts (head_text s.head) (flat_map act_line s.acts) (codes "end\n") rest))
+    ∙ bind_step (head_at (head_text s.head ++ behind)) _ (s.head, behind) made (head_again s.head behind f.head (begins_body s.acts s.head rest f.head f.acts))
+    (bind_step (acts_at 65536 s.head behind) _ (s.acts, rest) made (acts_again s.head s.acts 65536 rest f.head f.few f.acts) refl)
+
+-- ---- the whole text
+
+pub script_takes : (text : List ℕ) (x : Head × List (ℕ × Act)) → script_at text ≡ Ok x → IsScript (script_of x) × (text ≡ script_text (script_of x))
+unfolding script_at
+script_takes text x e =
+    let r = bind_ok (front_at text) _ x e in
+    elim (chosen (eqb (length r.0.1) 0) (Ok r.0.0) (Err (told r.0.1 More)) (Ok x) r.2) [
+      | inl g ↦
+          let t = front_takes text r.0 r.1 in
+          let nothing : r.0.1 ≡ [] = nil_from_length r.0.1 (eqb-true (length r.0.1) 0 g.0) in
+          let spelled : List ℕ = script_text (script_of r.0.0) in
+          let whole : text ≡ spelled = t.1 ∙ ap (λ (y : List ℕ). spelled ++ y) nothing ∙ append-nil spelled in
+          subst (λ (y : Head × List (ℕ × Act)). IsScript (script_of y) × (text ≡ script_text (script_of y))) (ok_is {E = Fault} r.0.0 x g.1) (t.0, whole)
+      | inr g ↦ absurd cc
+    ]
 
 pub script_again : (s : Script) → IsScript s → script_at (script_text s) ≡ Ok (s.head, s.acts)
 unfolding script_at
 script_again s f =
-    let lines : List ℕ = flat_map act_line s.acts ++ codes "end\n" in
-    let made : Result (Head × List (ℕ × Act)) Fault = Ok (s.head, s.acts) in
-    let again : acts_at 65536 s.head lines ≡ Ok (s.acts, []) = ap (acts_at 65536 s.head) (sym (append-nil lines)) ∙ acts_again s.head s.acts 65536 [] f.head f.few f.acts in
-    ap script_at (append_assoc (head_text s.head) (flat_map act_line s.acts) (codes "end\n"))
-    ∙ bind_step (head_at (head_text s.head ++ lines)) _ (s.head, lines) made (head_again s.head lines f.head (begins_act s.head s.acts f.head f.acts))
-    (bind_step (acts_at 65536 s.head lines) _ (s.acts, []) made again refl)
+    ap script_at (sym (append-nil (script_text s)))
+    ∙ bind_step (front_at (script_text s ++ [])) _ ((s.head, s.acts), []) (Ok (s.head, s.acts)) (front_again s [] f) refl
+
+-- bytes behind a script are told
+pub then_more : (s : Script) (rest : List ℕ) → IsScript s → (rest ≡ [] → ⊥) → script_at (script_text s ++ rest) ≡ Err (told rest More)
+unfolding script_at
+then_more s rest f some =
+    let no_end : eqb (length rest) 0 ≡ false = ne_eqb (length rest) 0 (λ z. some (nil_from_length rest z)) in
+    bind_step (front_at (script_text s ++ rest)) _ ((s.head, s.acts), rest) (Err (told rest More)) (front_again s rest f) (rw no_end refl)
 
 -- ---- what the parser answers
 
 pub is_found : (text : List ℕ) (head : Head) (items acts : List (ℕ × Act)) → acts ≡ items → script_at text ≡ Ok (head, items) → IsScript (record { head = head; acts = acts }) × (text ≡ script_text (record { head = head; acts = acts }))
 is_found text head items acts same e =
     subst (λ (a : List (ℕ × Act)). IsScript (record { head = head; acts = a }) × (text ≡ script_text (record { head = head; acts = a }))) (sym same) (script_takes text (head, items) e)
-
-abbrev script_of : Head × List (ℕ × Act) → Script
-script_of x = record { head = x.0; acts = x.1 }
 
 pub is_only : (text : List ℕ) (head : Head) (items acts : List (ℕ × Act)) (s : Script) → acts ≡ items → script_at text ≡ Ok (head, items) → IsScript s → text ≡ script_text s → script_of (head, acts) ≡ s
 is_only text head items acts s same e f t =

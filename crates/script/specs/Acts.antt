@@ -198,12 +198,18 @@ unfoldable pub acts_at : ℕ → Head → List ℕ → Result (List (ℕ × Act)
 acts_at zero head text = ended_or (word_at (codes "end\n") text) (line_at head text) (λ a. Err (told text Range))
 acts_at (suc room) head text = ended_or (word_at (codes "end\n") text) (line_at head text) (λ a. with_first a.0 (acts_at room head a.1))
 
+-- a script at the front of a text, and what comes after it
+unfoldable pub front_at : List ℕ → Result ((Head × List (ℕ × Act)) × List ℕ) Fault
+front_at text = do
+  head ← head_at text
+  acts ← acts_at 65536 head.0 head.1
+  Ok ((head.0, acts.0), acts.1)
+
 -- the whole text
 unfoldable pub script_at : List ℕ → Result (Head × List (ℕ × Act)) Fault
 script_at text = do
-  head ← head_at text
-  acts ← acts_at 65536 head.0 head.1
-  if length acts.1 == 0 then Ok (head.0, acts.0) else Err (told acts.1 More)
+  front ← front_at text
+  if length front.1 == 0 then Ok front.0 else Err (told front.1 More)
 
 -- the line at which so many bytes are left, counted from 1
 abbrev pub bad_line_of : List ℕ → Fault → BadLine

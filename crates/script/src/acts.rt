@@ -2,7 +2,7 @@
 
 ghost use Rattle.std.specs.Prelude.{◌≡◌, length};
 ghost use Rattle.script.specs.Reading.{Gives};
-ghost use Rattle.script.specs.Acts.{acts_at, script_at};
+ghost use Rattle.script.specs.Acts.{acts_at, front_at, script_at};
 
 use crate::act::act_line;
 use crate::head::read_head;
@@ -37,13 +37,22 @@ pub fn read_acts<'a>(
     }
 }
 
+/// The head and the acts that the front of the text spells, and what comes after them.
+#[tactic(auto, unfolding(crate::specs::Acts::front_at))]
+pub fn read_front(alloc: Global, text: &[u8]) -> Result<(Head, Vec<(u8, Act)>, &[u8]), Refusal>
+    ensures { Gives (λ x. ((x.0, x.1.items), x.2.now)) result (front_at text.now) }
+{
+    let (head, rest) = read_head(text)?;
+    let (acts, rest) = read_acts(alloc, &head, rest)?;
+    Ok((head, acts, rest))
+}
+
 /// The head and the acts that the whole text spells.
 #[tactic(auto, unfolding(crate::specs::Acts::script_at))]
 pub fn read_script(alloc: Global, text: &[u8]) -> Result<(Head, Vec<(u8, Act)>), Refusal>
     ensures { Gives (λ x. (x.0, x.1.items)) result (script_at text.now) }
 {
-    let (head, rest) = read_head(text)?;
-    let (acts, rest) = read_acts(alloc, &head, rest)?;
+    let (head, acts, rest) = read_front(alloc, text)?;
     if !rest.is_empty() {
         return Err(Refusal::Fault(fault_at(rest, Why::More)));
     }

@@ -1,8 +1,15 @@
+ghost use Rattle.std.specs.Prelude.{IfOk};
+ghost use Rattle.nvm_model.specs.ScriptText.{IsScript};
+
 use super::*;
+use mig_base::{BytesSink, Failed};
 use nvm_values::Op;
 use std::alloc::AllocError;
 use std::process::Abort;
 use std::test::Fail;
+
+mod bad_lines;
+mod fronts;
 
 /// A script, line by line.
 const LINES: [&str; 20] = [
@@ -28,59 +35,6 @@ const LINES: [&str; 20] = [
     "end\n",
 ];
 
-/// What stands in place of a line, counted from 1, and the line that is told for it.
-struct Spoil(usize, &'static str, u32, Why);
-
-const SPOILS: [Spoil; 42] = [
-    Spoil(1, "nvmigrate script 2\n", 1, Why::Form),
-    Spoil(2, "blocks 0\n", 2, Why::Range),
-    Spoil(2, "blocks 131073\n", 2, Why::Range),
-    Spoil(2, "blocks 130000000000000000000000\n", 2, Why::Range),
-    Spoil(2, "blocks 0130\n", 2, Why::Form),
-    Spoil(2, "blocks +130\n", 2, Why::Form),
-    Spoil(2, "blocks \n", 2, Why::Form),
-    Spoil(3, "shelf 64\n", 3, Why::Range),
-    Spoil(3, "shelf 2\n", 3, Why::Range),
-    Spoil(4, "lanes 9\n", 4, Why::Range),
-    Spoil(4, "lanes 3\n", 7, Why::Form),
-    Spoil(5, "lane 2 sq 4 cq 4 pages 2\n", 5, Why::Form),
-    Spoil(5, "lane 1 sq 65 cq 4  pages 2\n", 5, Why::Form),
-    Spoil(5, "lane 1 sq 65 cq 4 pages 2\n", 5, Why::Range),
-    Spoil(7, "burst 65\n", 7, Why::Range),
-    Spoil(8, "mix 4294967296\n", 8, Why::Range),
-    Spoil(10, "slice 131\n", 10, Why::Range),
-    Spoil(11, "small 3\n", 11, Why::Range),
-    Spoil(14, "migrate 0\n", 14, Why::Range),
-    Spoil(14, "migrate 3\nmigrate 4\n", 15, Why::Form),
-    Spoil(15, "1 fill 2 5a\n", 15, Why::Range),
-    Spoil(15, "1 fill 0 5A\n", 15, Why::Form),
-    Spoil(15, "1 fill 0 5\n", 15, Why::Form),
-    Spoil(15, "3 fill 0 5a\n", 15, Why::Range),
-    Spoil(15, "3 fill 0 5\n", 15, Why::Form),
-    Spoil(15, "0 wait\n", 15, Why::Range),
-    Spoil(16, "2 submit 1 write 3 0 0 -\n", 16, Why::Range),
-    Spoil(16, "2 submit 65536 write 3 1 0 -\n", 16, Why::Range),
-    Spoil(16, "2 submit 1 erase 3 1 0 -\n", 16, Why::Form),
-    Spoil(
-        16,
-        "2 submit 1 write 18446744073709551616 1 0 -\n",
-        16,
-        Why::Range,
-    ),
-    Spoil(17, "1 poke 1 4095 00ff\n", 17, Why::Range),
-    Spoil(17, "1 poke 1 8 00f\n", 17, Why::Form),
-    Spoil(17, "1 poke 1 8 \n", 17, Why::Form),
-    Spoil(18, "2 list 0 1 2 0 1 2 0 1 2 0\n", 18, Why::Form),
-    Spoil(18, "2 list 0\n", 18, Why::Form),
-    Spoil(18, "2 list 0 3\n", 18, Why::Range),
-    Spoil(18, "2 raw 00\n", 18, Why::Form),
-    Spoil(20, "end\nx", 21, Why::More),
-    Spoil(20, "end\n\n", 21, Why::More),
-    Spoil(20, "end", 20, Why::Cut),
-    Spoil(20, "", 20, Why::Cut),
-    Spoil(15, "1 fill 0 \u{e9}\n", 15, Why::Form),
-];
-
 /// The script with something in place of a line.
 fn spoilt(alloc: Global, line: usize, text: &str) -> Result<Vec<u8>, AllocError> {
     let mut whole = Vec::new(alloc);
@@ -92,7 +46,9 @@ fn spoilt(alloc: Global, line: usize, text: &str) -> Result<Vec<u8>, AllocError>
 }
 
 /// What a text is read as, where it isn't too long.
-fn read(rt: &impl Abort, alloc: Global, text: &[u8]) -> Result<Script, ParseRefusal> {
+fn read(rt: &impl Abort, alloc: Global, text: &[u8]) -> Result<Script, ParseRefusal>
+    ensures { IfOk result (λ s. IsScript s) }
+{
     assert!(rt; text.len() < 1 << 24);
     parse(alloc, text)
 }
@@ -201,25 +157,6 @@ fn raw_entries_are_read(rt: HostRuntime) -> Result<(), Fail> {
 }
 
 #[test]
-fn bad_lines_are_told(rt: HostRuntime) -> Result<(), Fail> {
-    for Spoil(line, text, bad, why) in &SPOILS {
-        let spoilt = spoilt(rt.alloc(), *line, text)?;
-        let told = ParseRefusal::Bad(BadLine {
-            line: *bad,
-            why: *why,
-        });
-        let found = read(&rt, rt.alloc(), &spoilt).err();
-        assert!(rt; found == Some(told), "line {line}: {text:?}, {found:?}");
-    }
-    let cut = ParseRefusal::Bad(BadLine {
-        line: 1,
-        why: Why::Cut,
-    });
-    assert!(rt; read(&rt, rt.alloc(), b"").err() == Some(cut));
-    Ok(())
-}
-
-#[test]
 fn acts_are_limited(rt: HostRuntime) -> Result<(), Fail> {
     let mut text = Vec::new(rt.alloc());
     for line in &LINES[..13] {
@@ -237,5 +174,67 @@ fn acts_are_limited(rt: HostRuntime) -> Result<(), Fail> {
         why: Why::Range,
     });
     assert!(rt; read(&rt, rt.alloc(), &text).err() == Some(told));
+    Ok(())
+}
+
+/// A script with each kind of act.
+const EACH_ACT: &str = "\
+nvmigrate script 1
+blocks 131072
+shelf 65536
+lanes 2
+lane 1 sq 64 cq 256 pages 256
+lane 2 sq 2 cq 2 pages 1
+burst 64
+mix 12345678
+change 65536
+slice 1
+small 131072
+pages 2064
+patience 65535
+migrate 65535
+1 fill 255 05
+1 poke 0 4064 000102030405060708090a0b0c0d0e0f101112131415161718191a1b1c1d1e1f
+1 list 0 0 255 1 2 3 4 5 6
+1 submit 65535 write 18446744073709551615 65536 - 255
+2 submit 0 flush 0 1 0 -
+2 submit 1 read 0 1 0 -
+2 submit 2 compare 0 1 - -
+2 submit 3 zeroes 0 1 - -
+2 submit 4 verify 0 1 - -
+2 raw 000102030405060708090a0b0c0d0e0f101112131415161718191a1b1c1d1e1f202122232425262728292a2b2c2d2e2f303132333435363738393a3b3c3d3eff
+2 wait
+1 idle
+end
+";
+
+/// Reads the script, and writes it to a sink whose calls of these numbers fail: the answer, and what was taken.
+fn rewritten(
+    rt: &impl Abort,
+    alloc: Global,
+    fails: &[u64],
+) -> Result<(Result<(), Failed>, BytesSink), Fail> {
+    let Ok(script) = read(rt, alloc, EACH_ACT.as_bytes()) else {
+        return Err(Fail::from("no script"));
+    };
+    let fails = fails.to_vec(alloc)?;
+    let mut sink = BytesSink::make(alloc, 4096, fails).map_err(|_| "no sink")?;
+    let answer = write_script(&script, &mut sink);
+    Ok((answer, sink))
+}
+
+#[test]
+fn a_script_is_written(rt: HostRuntime) -> Result<(), Fail> {
+    let text = EACH_ACT.as_bytes();
+    let (answer, whole) = rewritten(&rt, rt.alloc(), &[])?;
+    assert!(rt; answer == Ok(()));
+    assert!(rt; whole.bytes() == text);
+    for (call, lines) in [(1, 0), (6, 5), (15, 14), (27, 26)] {
+        let (answer, front) = rewritten(&rt, rt.alloc(), &[call])?;
+        assert!(rt; answer == Err(Failed));
+        assert!(rt; text.starts_with(front.bytes()));
+        let feeds = front.bytes().iter().filter(|byte| **byte == b'\n');
+        assert_eq!(rt; feeds.count(), lines);
+    }
     Ok(())
 }

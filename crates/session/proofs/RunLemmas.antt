@@ -3,7 +3,7 @@ use Rattle.std.proofs.lemmas.List.Sums.{sum_by-append}
 use Rattle.std.specs.List.{AllByRecursion}
 use Rattle.std.specs.Prelude.{slice_set}
 use Rattle.mig_base.specs.Count.{NeverFall, RiseBy}
-use Rattle.mig_base.specs.Stream.{with_more}
+use Rattle.mig_base.specs.Stream.{IsCut, with_more}
 use Rattle.nvm_model.specs.declared.line.Line.{Line}
 use Rattle.nvm_model.specs.declared.line.Line.TheVariants as line
 use Rattle.nvm_model.specs.declared.script.Act.{Act}
@@ -29,7 +29,7 @@ use Rattle.session.specs.Leads.{TurnsTo}
 use Rattle.session.specs.Side.{AreCopied, HasMemory, IfMoved, window_of}
 use Rattle.session.specs.State.{IsLaneOf, IsNewPair, IsPairComplete, Stands}
 use Rattle.nvm_blocks.specs.Work.{IsSized}
-use Rattle.session.specs.Written.{IsCut, IsWritten}
+use Rattle.session.specs.Written.{IsWritten}
 use Rattle.session.proofs.CopyLemmas.{all_copied}
 use Rattle.session.proofs.GoesLemmas.{told_more, told_none, steps_more}
 use Rattle.mig_base.proofs.CountLemmas.{never_both, never_more, never_stay, rise_left, rise_more, rise_none, rise_right}

@@ -1,16 +1,10 @@
-use Rattle.std.proofs.Common.{◌≡◌, ℕ, ◌+◌, ◌<◌, List, [], ◌++◌, Option, Some, None, length, take, drop, get_or, refl, sym, ap, subst, ◌∙◌, append_assoc, arith}
-use Rattle.std.proofs.Math.Seq.{take-append-add}
+use Rattle.std.proofs.Common.{◌≡◌, ℕ, ◌+◌, ◌<◌, List, [], ◌++◌, Option, length, take, drop, get_or, sym, ap, subst, ◌∙◌}
 use Rattle.std.proofs.lemmas.Grind.{flat_map-append}
-use Rattle.std.proofs.lemmas.List.{take_more, flat_map_more, take-append-le, take-append-drop, length-append}
-use Rattle.mig_base.specs.Stream.{with_more}
+use Rattle.std.proofs.lemmas.List.{take_more, flat_map_more, take-append-drop}
+use Rattle.mig_base.specs.Stream.{IsCut, with_more}
+use Rattle.mig_base.proofs.WriteLemmas.{with_more_more, cut_longer, cut_after}
 use Rattle.nvm_model.specs.declared.line.Line.{Line}
 use Rattle.nvm_model.specs.Text.{line_text, text_of}
-use Rattle.session.specs.Written.{IsCut}
-
--- bytes, and then further bytes
-pub with_more_more : (a b : List ℕ) (told : Option (List ℕ)) → with_more b (with_more a told) ≡ with_more (a ++ b) told
-with_more_more a b None = refl
-with_more_more a b (Some taken) = ap (λ (t : List ℕ). Some t) (append_assoc taken a b)
 
 -- the text of one more line
 pub text_of_more : (lines : List Line) (i : ℕ) (l : Line) → i < length lines → l ≡ get_or lines i l → text_of (take (i + 1) lines) ≡ text_of (take i lines) ++ line_text l
@@ -23,23 +17,7 @@ lines_more a b before mid after first second =
     second ∙ ap (λ (t : Option (List ℕ)). with_more (text_of b) t) first ∙ with_more_more (text_of a) (text_of b) before
     ∙ ap (λ (t : List ℕ). with_more t before) (sym (flat_map-append line_text a b))
 
--- a front of a text is one of a longer text
-cut_longer : (a b : List ℕ) (before after : Option (List ℕ)) → IsCut a before after → IsCut (a ++ b) before after
-cut_longer a b before after cut =
-    let n = cut.0 in
-    let more = length-append a b in
-    (n, omega (arith, cut.1, more), cut.2 ∙ ap (λ (t : List ℕ). with_more t before) (sym (take-append-le n a b cut.1)))
-
-cut_after : (a b : List ℕ) (before mid after : Option (List ℕ)) → mid ≡ with_more a before → IsCut b mid after → IsCut (a ++ b) before after
-cut_after a b before mid after first cut =
-    let n = cut.0 in
-    let more = length-append a b in (
-      length a + n,
-      omega (arith, cut.1, more),
-      cut.2 ∙ ap (λ (t : Option (List ℕ)). with_more (take n b) t) first ∙ with_more_more a (take n b) before ∙ ap (λ (t : List ℕ). with_more t before) (sym (take-append-add a b n)),
-    )
-
--- the same of lines, of which a front was written
+-- lines, of which a front was written
 pub lines_cut_longer : (a b : List Line) (before after : Option (List ℕ)) → IsCut (text_of a) before after → IsCut (text_of (a ++ b)) before after
 lines_cut_longer a b before after cut =
     subst (λ (t : List ℕ). IsCut t before after) (sym (flat_map-append line_text a b)) (cut_longer (text_of a) (text_of b) before after cut)

@@ -1,7 +1,7 @@
 use Rattle.std.specs.Prelude.{◌≡◌, ℕ, ◌+◌, Bool, false, List, [], ◌∷◌, ◌++◌, Option, Some, None, length}
 use Rattle.std.specs.List.{AllByRecursion}
 use Rattle.mig_base.specs.Count.{NeverFall, RiseBy}
-use Rattle.mig_base.specs.Stream.{with_more}
+use Rattle.mig_base.specs.Stream.{IsCut, with_more}
 use Rattle.nvm_model.specs.declared.line.Line.{Line}
 use Rattle.nvm_model.specs.declared.line.Line.TheVariants as line
 use Rattle.nvm_model.specs.declared.script.Script.{Script}
@@ -16,7 +16,7 @@ use Rattle.session.specs.State.{Stands}
 use Rattle.session.specs.declared.ending.Ending.{Ending}
 use Rattle.session.specs.declared.ending.Ending.TheVariants.{Done, GaveUp}
 use Rattle.session.specs.Goes.{LaneSteps, ToldSteps}
-use Rattle.session.specs.Written.{IsCut, IsWritten}
+use Rattle.session.specs.Written.{IsWritten}
 
 -- Turns of one lane on one host: their events, whose lines were written, all or a front of them, and what the events
 -- made of the lane and of the medium's told blocks.

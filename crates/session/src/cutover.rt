@@ -1,7 +1,7 @@
 // The cutover of a suspended move: while nothing runs, every block and every window page goes to the destination.
 ghost use Rattle.std.specs.Prelude.{◌≡◌, ◌+◌, ◌<◌, ◌≤◌, ◌++◌, ◌∷◌, [], true, false, IfOk, OnErr, OnOk, length, map};
 ghost use Rattle.mig_base.specs.Count.{HasCause, NeverFall, RiseBy};
-ghost use Rattle.mig_base.specs.Stream.{with_more};
+ghost use Rattle.mig_base.specs.Stream.{IsCut, with_more};
 ghost use Rattle.nvm_model.specs.Text.{text_of};
 ghost use Rattle.guest_ram.specs.Ram.{shape};
 ghost use Rattle.session.specs.Run.{HasMoved, HasStoppedMoving, ending_lines};
@@ -9,7 +9,6 @@ ghost use Rattle.session.specs.Side.{AreCopied, CopiesBlock, HasMemory, IfMoved,
 ghost use Rattle.session.specs.State.{IsLaneOf};
 ghost use Rattle.nvm_blocks.specs.Namespace.{block_count, media_of, told_of};
 ghost use Rattle.session.specs.Shelves.{IsNamespaceOf, SameShelves};
-ghost use Rattle.session.specs.Written.{IsCut};
 
 use crate::lines::write_lines;
 use crate::{Ending, LaneScript};

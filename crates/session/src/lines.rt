@@ -1,9 +1,8 @@
 // Lines go out one by one.
 ghost use Rattle.std.specs.Prelude.{◌≡◌, OnErr, OnOk};
 ghost use Rattle.mig_base.specs.Count.{HasCause};
-ghost use Rattle.mig_base.specs.Stream.{with_more};
+ghost use Rattle.mig_base.specs.Stream.{IsCut, with_more};
 ghost use Rattle.nvm_model.specs.Text.{line_text, text_of};
-ghost use Rattle.session.specs.Written.{IsCut};
 
 use mig_base::{Failed, Sink, send};
 use nvm_model::Line;

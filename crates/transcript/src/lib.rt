@@ -3,7 +3,6 @@
 #![tactic(auto)]
 
 mod guess;
-mod line_buf;
 mod parse;
 mod print;
 mod read;

@@ -86,7 +86,7 @@ fn print_completion(status: Status, head: u32, phase: bool, out: &mut LineBuf)
     ensures text { out.new ≡ out.old ++ status_text status ++ codes " " ++ field head ++ last_field (bit phase) }
     ensures form { IsStatus status × (head < 2 ^ 32) }
 {
-    out.push_status(status);
+    push_status(status, out);
     out.push(b" ");
     out.push_field(head);
     out.push_last_field(u32::from(phase));
@@ -97,7 +97,7 @@ fn print_check(status: Status, pieces: u32, out: &mut LineBuf)
     ensures text { out.new ≡ out.old ++ status_text status ++ codes " " ++ last_field pieces }
     ensures form { IsStatus status × (pieces < 2 ^ 32) }
 {
-    out.push_status(status);
+    push_status(status, out);
     out.push(b" ");
     out.push_last_field(pieces);
 }
@@ -107,7 +107,7 @@ fn print_status(status: Status, out: &mut LineBuf)
     ensures text { out.new ≡ out.old ++ status_text status ++ codes "\n" }
     ensures form { IsStatus status }
 {
-    out.push_status(status);
+    push_status(status, out);
     out.push(b"\n");
 }
 
@@ -154,4 +154,15 @@ fn print_digest(digest: Option<[u8; 32]>, out: &mut LineBuf)
             out.push(b"\n")
         }
     }
+}
+
+/// A status: its type, a space, and its code.
+fn push_status(status: Status, out: &mut LineBuf)
+    requires { length out.old + 13 ≤ 192 }
+    ensures text { out.new ≡ out.old ++ status_text status }
+    ensures short { length out.new ≤ length out.old + 13 }
+    ensures form { IsStatus status }
+{
+    out.push_field(u32::from(status.sct));
+    out.push_hex(&[status.sc]);
 }

@@ -3,9 +3,10 @@
 use super::*;
 
 /// The head of such a script, but for the number of its data pages.
-const HEAD: &str = "nvmigrate script 1\nblocks 32\nshelf 16\nlanes 1\nlane 1 sq 4 cq 4 pages ";
+pub(super) const HEAD: &str =
+    "nvmigrate script 1\nblocks 32\nshelf 16\nlanes 1\nlane 1 sq 4 cq 4 pages ";
 
-const TWO_SHELVES: Given<'static> = Given {
+pub(super) const TWO_SHELVES: Given<'static> = Given {
     sizes: ["32", "16"],
     from: &[16, 16],
     to: &[16, 16],

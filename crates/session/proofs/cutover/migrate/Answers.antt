@@ -1,12 +1,11 @@
 use Rattle.std.proofs.Common.{◌≡◌, ℕ, ◌+◌, [], ◌∷◌, ap, subst, ◌∙◌, rules}
 use Rattle.mig_base.proofs.CountLemmas.{never_stay}
-use Rattle.mig_base.specs.Stream.{with_more}
+use Rattle.mig_base.specs.Stream.{IsCut, with_more}
 use Rattle.nvm_model.specs.Text.{text_of}
 use Rattle.nvm_model.specs.World.{set_of}
 use Rattle.nvm_model.specs.declared.line.Line.TheVariants as line
 use Rattle.session.specs.Run.{ending_lines}
 use Rattle.session.specs.declared.ending.Ending.TheVariants.{Done}
-use Rattle.session.specs.Written.{IsCut}
 use Rattle.session.proofs.CopyLemmas.{moves_rose, one_window}
 use Rattle.session.proofs.ShelvesLemmas.{faults_of}
 use Rattle.session.proofs.TextLemmas.{lines_more, lines_cut_longer, lines_cut_after}

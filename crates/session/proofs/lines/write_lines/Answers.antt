@@ -1,7 +1,8 @@
 use Rattle.std.proofs.Common.{◌<◌, ℕ, List, Option, length, take, ap, sym, ◌∙◌, arith}
 use Rattle.mig_base.specs.Stream.{with_more}
 use Rattle.nvm_model.specs.Text.{line_text, text_of}
-use Rattle.session.proofs.TextLemmas.{with_more_more, text_of_more, line_cut}
+use Rattle.mig_base.proofs.WriteLemmas.{with_more_more}
+use Rattle.session.proofs.TextLemmas.{text_of_more, line_cut}
 use Rattle.session.proofs.lines.write_lines.Goals as goal
 
 pub loop-line-preserved : goal.loop-line-preserved

@@ -1,13 +1,19 @@
+//! Room for one line of text, made piece by piece without memory of its own. For the layer above: each push adds
+//! exactly the text that its definition gives the value, and requires that it fits; and a line is written whole, or a
+//! front of it and the sink's count of faults rose.
+#![tactic(auto)]
+
 ghost use Rattle.std.specs.Prelude.{◌≡◌, ◌+◌, ◌*◌, ◌^◌, ◌<◌, ◌≤◌, All, [], ◌++◌, List, ℕ, length, decimal};
 ghost use Rattle.hex.specs.Hex.{encode_lower};
-ghost use Rattle.nvm_model.specs.Text.{field, last_field, status_text, IsStatus};
+ghost use Rattle.mig_base.specs.Stream.{Writes};
+ghost use Rattle.nvm_model.specs.Text.{field, last_field};
 
 use arrayvec::ArrayVec;
 use itoa::Buffer;
-use nvm_values::Status;
+use mig_base::{Failed, Sink, send};
 use std::marker::Model;
 
-/// Room for one line of a transcript, 192 bytes: the longest has fewer. Contracts see the bytes.
+/// Room for one line of a text, 192 bytes: the longest has fewer. Contracts see the bytes.
 #[derive(Drop)]
 pub struct LineBuf {
     bytes: ArrayVec<u8, 192>,
@@ -36,13 +42,15 @@ impl LineBuf {
         self.bytes.as_slice()
     }
 
-    pub(crate) fn clear(&mut self)
+    /// The line becomes empty.
+    pub fn clear(&mut self)
         ensures { self.new ≡ [] }
     {
         self.bytes.clear();
     }
 
-    pub(crate) fn push(&mut self, piece: &[u8])
+    /// Bytes as they are.
+    pub fn push(&mut self, piece: &[u8])
         requires { length self.old + length piece.now ≤ 192 }
         ensures { self.new ≡ self.old ++ piece.now }
     {
@@ -50,7 +58,7 @@ impl LineBuf {
     }
 
     /// A number in decimal.
-    pub(crate) fn push_number(&mut self, n: u32)
+    pub fn push_number(&mut self, n: u32)
         requires { length self.old + 10 ≤ 192 }
         ensures text { self.new ≡ self.old ++ decimal n }
         ensures short { length self.new ≤ length self.old + 10 }
@@ -58,8 +66,17 @@ impl LineBuf {
         self.push(Buffer::new().format(n).as_bytes());
     }
 
+    /// A number of 64 bits in decimal.
+    pub fn push_number64(&mut self, n: u64)
+        requires { length self.old + 20 ≤ 192 }
+        ensures text { self.new ≡ self.old ++ decimal n }
+        ensures short { length self.new ≤ length self.old + 20 }
+    {
+        self.push(Buffer::new().format(n).as_bytes());
+    }
+
     /// A number, and the space between it and what comes next.
-    pub(crate) fn push_field(&mut self, n: u32)
+    pub fn push_field(&mut self, n: u32)
         requires { length self.old + 11 ≤ 192 }
         ensures text { self.new ≡ self.old ++ field n }
         ensures short { length self.new ≤ length self.old + 11 }
@@ -69,7 +86,7 @@ impl LineBuf {
     }
 
     /// A number, and the line feed.
-    pub(crate) fn push_last_field(&mut self, n: u32)
+    pub fn push_last_field(&mut self, n: u32)
         requires { length self.old + 11 ≤ 192 }
         ensures text { self.new ≡ self.old ++ last_field n }
         ensures short { length self.new ≤ length self.old + 11 }
@@ -78,28 +95,31 @@ impl LineBuf {
         self.push(b"\n");
     }
 
-    /// Bytes in lower-case hexadecimal digits, at most 32 of them.
-    pub(crate) fn push_hex(&mut self, bytes: &[u8])
-        requires few { length bytes.now ≤ 32 }
-        requires room { length self.old + 64 ≤ 192 }
+    /// Bytes in lower-case hexadecimal digits, at most 64 of them.
+    pub fn push_hex(&mut self, bytes: &[u8])
+        requires few { length bytes.now ≤ 64 }
+        requires room { length self.old + 2 * length bytes.now ≤ 192 }
         ensures text { self.new ≡ self.old ++ encode_lower bytes.now }
         ensures long { length self.new ≡ length self.old + 2 * length bytes.now }
         ensures form { All (λ byte. byte < 2 ^ 8) bytes.now }
     {
-        let mut digits = [0u8; 64];
+        let mut digits = [0u8; 128];
         let text = &mut digits[..2 * bytes.len()];
         hex::encode_to_slice(bytes, text).unwrap();
         self.push(text);
     }
-
-    /// A status: its type, a space, and its code.
-    pub(crate) fn push_status(&mut self, status: Status)
-        requires { length self.old + 75 ≤ 192 }
-        ensures text { self.new ≡ self.old ++ status_text status }
-        ensures short { length self.new ≤ length self.old + 13 }
-        ensures form { IsStatus status }
-    {
-        self.push_field(u32::from(status.sct));
-        self.push_hex(&[status.sc]);
-    }
 }
+
+/// Writes a line.
+///
+/// # Errors
+///
+/// `Failed` only where the sink's count of faults rose. A front of the line was written then.
+pub fn write_line<K: Sink>(line: &[u8], sink: &mut K) -> Result<(), Failed>
+    ensures { Writes line.now (K.bytes sink.old) (K.bytes sink.new) (K.faults sink.old) (K.faults sink.new) result }
+{
+    send(sink, line)
+}
+
+#[cfg(test)]
+mod tests;

@@ -1,0 +1,8 @@
+use Rattle.std.proofs.Common.{ℕ, zero, suc, ◌<◌, List, [], ◌∷◌, length, get_or, arith}
+use Rattle.std.specs.List.{AllByRecursion}
+
+-- what holds of each element holds of the one at a place
+pub all_at : {X : Type 0} (P : X → Type 0) (xs : List X) (i : ℕ) (d : X) → AllByRecursion P xs → i < length xs → P (get_or xs i d)
+all_at P [] i d all there = absurd (omega arith)
+all_at P (x ∷ xs) zero d all there = all.0
+all_at P (x ∷ xs) (suc i) d all there = all_at P xs i d all.1 (omega arith)
