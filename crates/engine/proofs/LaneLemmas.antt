@@ -50,12 +50,3 @@ ended_is {M} blocks faults s ending k n start from to new_from new_to from_ram t
       run = run_is (λ (j : ℕ) (l : Lane). IfTold (told_of blocks from) (told_of blocks to) (HasRun framed s j l ending (map faults (media_of from)) (map faults (media_of to)) bytes
           (told_of blocks new_from) (window_of from_ram).pages (told_of blocks new_to) (window_of to_ram).pages (map faults (media_of new_from)) (map faults (media_of new_to)) new_bytes)) first begins run;
     }))))
-
-pub broken_is : {M : Type 0} (blocks : M → Option (List (List ℕ))) (faults : M → ℕ) (s : Script) (k : ℕ) (start : Lane) (from to new_from new_to : NamespaceState M) (bytes new_bytes : Option (List ℕ)) {from_media to_media : List M} →
-    k ≡ 1 → start ≡ new_lane (set_of s.head 1).pages → media_of new_from ≡ from_media → media_of new_to ≡ to_media →
-    IfTold (told_of blocks from) (told_of blocks to) (HasStopped framed s k start (map faults (media_of from)) (map faults (media_of to)) bytes (map faults (media_of new_from)) (map faults (media_of new_to)) new_bytes) →
-    HasBroken s (all_told blocks faults (media_of from)) (all_told blocks faults (media_of to)) bytes (all_told blocks faults from_media) (all_told blocks faults to_media) new_bytes
-broken_is {M} blocks faults s k start from to new_from new_to bytes new_bytes {to_media = to_media} first begins from_is to_is run =
-    let broken = λ (from_media to_media : List M). HasBroken s (all_told blocks faults (media_of from)) (all_told blocks faults (media_of to)) bytes (all_told blocks faults from_media) (all_told blocks faults to_media) new_bytes in
-    subst (λ (m : List M). broken m to_media) from_is (subst (λ (m : List M). broken (media_of new_from) m) to_is
-    (record { run = run_is (λ (j : ℕ) (l : Lane). IfTold (told_of blocks from) (told_of blocks to) (HasStopped framed s j l (map faults (media_of from)) (map faults (media_of to)) bytes (map faults (media_of new_from)) (map faults (media_of new_to)) new_bytes)) first begins run }))

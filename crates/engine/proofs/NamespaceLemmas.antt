@@ -18,14 +18,6 @@ whole_shelves head is =
     let count : head.blocks / head.shelf ≡ n = ap (λ (b : ℕ). b / head.shelf) whole ∙ div-mul-add n head.shelf 0 is.shelf.0 in
     ap (λ (k : ℕ). k * head.shelf) count ∙ sym is.shelves.2
 
--- there is one at least
-pub some_shelf : (head : Head) → IsHead head → 1 ≤ head.blocks / head.shelf
-some_shelf head is = at_least (head.blocks / head.shelf) head.shelf (subst (λ (n : ℕ). 1 ≤ n) (sym (whole_shelves head is)) is.blocks.0)
-  where
-    at_least : (n s : ℕ) → 1 ≤ n * s → 1 ≤ n
-    at_least zero s h = absurd (omega (arith, h))
-    at_least (suc n) s h = omega arith
-
 -- the same media have the same sizes
 pub same_media : {M : Type 0} (size : M → ℕ) {media others : List M} {sizes : List ℕ} → media ≡ others → map size others ≡ sizes → map size media ≡ sizes
 same_media {M} size same is = ap (λ (l : List M). map size l) same ∙ is

@@ -49,7 +49,7 @@ pub fn nvmigrate<R: Threads + Sync, S: Source, K: Sink, M: Medium + Send, G: Gat
     // Each guest did its acts, and each of its commands was fetched, done, posted and reaped.
     ensures complete { IfRuns (map string_bytes words.now) (OnEnded result (Ran (S.left input.old) (joined (map M.blocks from.old.shelves.items)) (joined (map M.blocks to.old.shelves.items)) (K.bytes output.old) (K.bytes output.new)
         (λ script blocks lines world. Complete script world))) }
-    // Where the guest was moved, the source holds the blocks and the data pages of the world then, and the destination
+    // Where the guest was moved, the source holds the blocks and the whole memory of the world then, and the destination
     // those of the world at the end. Where it wasn't, the source holds these.
     ensures hosts { IfRuns (map string_bytes words.now) (OnEnded result (Ran (S.left input.old) (joined (map M.blocks from.old.shelves.items)) (joined (map M.blocks to.old.shelves.items)) (K.bytes output.old) (K.bytes output.new)
         (λ script blocks lines world. HostsHold script blocks lines world

@@ -83,13 +83,7 @@ piece_goes s k place i command job result told faults lane events new_told new_f
 pub finished_after : (shelf n : ℕ) (command : Command) (job : Job) → command.work ≡ Some (work_at job n) → piece_count shelf job.span ≤ n → pieces_left shelf command ≡ 0
 finished_after shelf n command job has all = rw has (omega (arith, all))
 
--- the commands up to a place have no piece left once the one at that place hasn't
-pub finished_up_to : (shelf place : ℕ) (running : List Command) (c : Command) → place < length running →
-    All (λ (d : Command). pieces_left shelf d ≡ 0) (take place running) → pieces_left shelf c ≡ 0 → All (λ (d : Command). pieces_left shelf d ≡ 0) (take (place + 1) (slice_set running place c))
-finished_up_to shelf place running c there earlier finished =
-    All-same (λ (d : Command). pieces_left shelf d ≡ 0) _ _ (take_more_set running place c there) (All-push (λ (d : Command). pieces_left shelf d ≡ 0) (take place running) c earlier finished)
-
--- the same where it had none before
+-- the commands up to a place have no piece left where the one at that place has none
 pub finished_already : (shelf place : ℕ) (running : List Command) (none : Command) → place < length running →
     All (λ (d : Command). pieces_left shelf d ≡ 0) (take place running) → (get_or running place none).work ≡ None → All (λ (d : Command). pieces_left shelf d ≡ 0) (take (place + 1) running)
 finished_already shelf place running none there earlier idle =

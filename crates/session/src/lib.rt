@@ -1,6 +1,6 @@
-//! One controller and the guest of its queue pair over one medium: a turn is a list of events, which are then written as
-//! lines. A run's lines are a whole transcript, its events a legal history that ends complete, and the medium, the
-//! memory and the counts of faults are those of the world that it reaches.
+//! One controller and the guest of its queue pair over two sides, each a host's guest memory and its namespace: a turn is
+//! a list of events, which are then written as lines. A run's lines are a whole transcript, its events a legal history
+//! that ends complete, and the blocks, the memory and the counts of faults are those of the world that it reaches.
 #![tactic(auto)]
 
 mod check;
