@@ -1,0 +1,5 @@
+pub mod CommandLemmas
+pub mod FrameLemmas
+pub mod OrderLemmas
+pub mod PlanLemmas
+pub mod RestLemmas
