@@ -1,0 +1,5 @@
+pub mod PairsLemmas
+pub mod PlanLemmas
+pub mod QueueLemmas
+pub mod TurnLemmas
+pub mod WorkLemmas

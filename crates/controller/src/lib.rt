@@ -1,0 +1,13 @@
+//! The controller's side of all queue pairs. For the layer above: its rings and each lane's window stand for that lane of
+//! the model, and the fetches and the posts of a lane's turn are those of the model, which the controller tells.
+#![tactic(auto)]
+
+mod check;
+mod controller;
+mod pair;
+
+pub use controller::{Controller, Phase};
+pub use nvm_model::LaneSet as PairSet;
+
+#[cfg(test)]
+mod tests;
