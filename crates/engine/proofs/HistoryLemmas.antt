@@ -1,4 +1,4 @@
-use Rattle.std.proofs.Common.{◌≡◌, ℕ, ◌+◌, ◌-◌, ◌≤◌, Bool, cond, ◌||◌, false, List, [], ◌∷◌, ◌++◌, Option, Some, None, refl, sym, ap, subst, ◌∙◌, arith, append_assoc, append-nil, slice_index_or, slice_set}
+use Rattle.std.proofs.Common.{◌≡◌, ℕ, Bool, ◌||◌, false, List, [], ◌∷◌, ◌++◌, Option, Some, None, refl, ap, ◌∙◌, append_assoc, append-nil}
 use Rattle.std.specs.Prelude.{IsTrue}
 use Rattle.std.specs.Option.{option_map}
 use Rattle.std.proofs.lemmas.Bool.{false≢true}
@@ -6,66 +6,18 @@ use Rattle.std.proofs.lemmas.List.Elements.{filter-append}
 use Rattle.nvm_model.specs.declared.line.Line.{Line}
 use Rattle.nvm_model.specs.declared.line.Line.TheVariants as line
 use Rattle.nvm_model.specs.declared.script.Script.{Script}
-use Rattle.nvm_model.specs.World.{Lane, World, new_lane, set_of}
-use Rattle.nvm_model.specs.Event.{LaneStep, lane_number, One}
-use Rattle.nvm_model.specs.History.{is_event, is_give_up, has_given_up, events_of, events_before_resume, lines_before_resume, AreEvents, Steps}
+use Rattle.nvm_model.specs.World.{window_pages}
+use Rattle.nvm_model.specs.History.{is_event, is_give_up, has_given_up, events_of, events_before_resume, lines_before_resume, AreEvents}
 use Rattle.session.specs.declared.ending.Ending.{Ending}
 use Rattle.session.specs.declared.ending.Ending.TheVariants.{Done, GaveUp}
-use Rattle.session.specs.Goes.{LaneSteps}
 use Rattle.session.specs.Run.{AreMoving, framed, moving_lines}
+use Rattle.session.proofs.FrontLemmas.{all_events, resume_later}
 use Rattle.engine.specs.Ended.{gives_up}
-
--- the world of one lane
-abbrev pub alone : List (List ℕ) → Lane → World
-alone blocks lane = record { blocks = blocks; lanes = lane ∷ [] }
-
--- what an event does to its lane, it does to the world of that lane
-one_step : (s : Script) (e : Line) (blocks : List (List ℕ)) (lane : Lane) (new_blocks : List (List ℕ)) (new : Lane) →
-    lane_number e ≡ 1 → LaneStep s e blocks lane new_blocks new → One s (alone blocks lane) e (alone new_blocks new)
-one_step s e blocks lane new_blocks new first step = record {
-  there = subst (λ (k : ℕ). (1 ≤ k) × (k ≤ 1)) (sym first) (omega arith, omega arith);
-  blocks = new_blocks;
-  lane = new;
-  step = subst (λ (l : Lane). LaneStep s e blocks l new_blocks new) (ap (λ (k : ℕ). slice_index_or (lane ∷ []) (k - 1) (new_lane 0)) (sym first)) step;
-  after = ap (λ (k : ℕ). record { blocks = new_blocks; lanes = slice_set (lane ∷ []) (k - 1) new }) (sym first);
-}
-
-pub all_steps : (s : Script) (es : List Line) (blocks : List (List ℕ)) (lane : Lane) (new_blocks : List (List ℕ)) (new : Lane) →
-    LaneSteps s 1 blocks lane es new_blocks new → Steps s (alone blocks lane) es (alone new_blocks new)
-all_steps s [] blocks lane new_blocks new h = ap (λ (b : List (List ℕ)). alone b new) h.0 ∙ ap (alone blocks) h.1
-all_steps s (e ∷ es) blocks lane new_blocks new h =
-    (alone h.0 h.1, one_step s e blocks lane h.0 h.1 h.2 h.3, all_steps s es h.0 h.1 new_blocks new h.4)
-
--- a line that does something to a lane is an event
-step_is_event : (s : Script) (e : Line) (blocks : List (List ℕ)) (lane : Lane) (new_blocks : List (List ℕ)) (new : Lane) → LaneStep s e blocks lane new_blocks new → IsTrue (is_event e)
-step_is_event s (line.Act k n) blocks lane new_blocks new h = refl
-step_is_event s (line.Reap k cid status head phase) blocks lane new_blocks new h = refl
-step_is_event s (line.Fetch k cid status pieces) blocks lane new_blocks new h = refl
-step_is_event s (line.Piece k cid first count outcome digest) blocks lane new_blocks new h = refl
-step_is_event s (line.Post k cid status) blocks lane new_blocks new h = refl
-step_is_event s line.Title blocks lane new_blocks new h = absurd h
-step_is_event s line.Ready blocks lane new_blocks new h = absurd h
-step_is_event s line.Migrate blocks lane new_blocks new h = absurd h
-step_is_event s line.Restart blocks lane new_blocks new h = absurd h
-step_is_event s (line.Round owed pages) blocks lane new_blocks new h = absurd h
-step_is_event s line.Suspend blocks lane new_blocks new h = absurd h
-step_is_event s (line.Pause owed pages) blocks lane new_blocks new h = absurd h
-step_is_event s line.ResumeTo blocks lane new_blocks new h = absurd h
-step_is_event s line.GiveUp blocks lane new_blocks new h = absurd h
-step_is_event s line.End blocks lane new_blocks new h = absurd h
-
-pub are_events : (s : Script) (es : List Line) (blocks : List (List ℕ)) (lane : Lane) (new_blocks : List (List ℕ)) (new : Lane) → LaneSteps s 1 blocks lane es new_blocks new → AreEvents es
-are_events s [] blocks lane new_blocks new h = tt
-are_events s (e ∷ es) blocks lane new_blocks new h = (step_is_event s e blocks lane h.0 h.1 h.3, are_events s es h.0 h.1 new_blocks new h.4)
 
 -- The events of a run's lines.
 
-all_events : (es : List Line) → AreEvents es → events_of es ≡ es
-all_events [] h = refl
-all_events (e ∷ es) h = ap (λ (b : Bool). cond b (e ∷ events_of es) (events_of es)) h.0 ∙ ap (λ (others : List Line). e ∷ others) (all_events es h.1)
-
 -- the lines of a move have no event
-moving_events : (s : Script) (wish : Option ℕ) (ending : Ending) (lines : List Line) → AreMoving s 1 wish ending lines → events_of lines ≡ []
+moving_events : (s : Script) (wish : Option ℕ) (ending : Ending) (lines : List Line) → AreMoving s wish ending lines → events_of lines ≡ []
 moving_events s None Done lines are = ap events_of are
 moving_events s None GaveUp lines are = absurd are
 moving_events s (Some turn) Done lines are = ap events_of are
@@ -77,7 +29,7 @@ whole_lines before moving after =
     ap (λ (ls : List Line). line.Title ∷ line.Ready ∷ ls) (append_assoc before (moving ++ after) (line.End ∷ []) ∙ ap (λ (ls : List Line). before ++ ls) (append_assoc moving after (line.End ∷ [])))
 
 -- the events are those before a move and those after it
-pub events_are : (s : Script) (wish : Option ℕ) (ending : Ending) (before moving after : List Line) → AreEvents before → AreMoving s 1 wish ending moving → AreEvents after →
+pub events_are : (s : Script) (wish : Option ℕ) (ending : Ending) (before moving after : List Line) → AreEvents before → AreMoving s wish ending moving → AreEvents after →
     events_of (framed (before ++ (moving ++ after))) ≡ before ++ after
 events_are s wish ending before moving after first are second =
     filter-append is_event (before ++ (moving ++ after)) (line.End ∷ []) ∙ append-nil (events_of (before ++ (moving ++ after))) ∙ filter-append is_event before (moving ++ after)
@@ -103,29 +55,12 @@ event_keeps line.ResumeTo h = absurd (false≢true h)
 event_keeps line.GiveUp h = absurd (false≢true h)
 event_keeps line.End h = absurd (false≢true h)
 
-event_passes : (e : Line) → IsTrue (is_event e) → (lines : List Line) → lines_before_resume (e ∷ lines) ≡ option_map (λ (before : List Line). e ∷ before) (lines_before_resume lines)
-event_passes (line.Act k n) h lines = refl
-event_passes (line.Reap k cid status head phase) h lines = refl
-event_passes (line.Fetch k cid status pieces) h lines = refl
-event_passes (line.Piece k cid first count outcome digest) h lines = refl
-event_passes (line.Post k cid status) h lines = refl
-event_passes line.Title h lines = absurd (false≢true h)
-event_passes line.Ready h lines = absurd (false≢true h)
-event_passes line.Migrate h lines = absurd (false≢true h)
-event_passes line.Restart h lines = absurd (false≢true h)
-event_passes (line.Round owed pages) h lines = absurd (false≢true h)
-event_passes line.Suspend h lines = absurd (false≢true h)
-event_passes (line.Pause owed pages) h lines = absurd (false≢true h)
-event_passes line.ResumeTo h lines = absurd (false≢true h)
-event_passes line.GiveUp h lines = absurd (false≢true h)
-event_passes line.End h lines = absurd (false≢true h)
-
 -- events give nothing up
 none_given_up : (es others : List Line) → AreEvents es → has_given_up (es ++ others) ≡ has_given_up others
 none_given_up [] others h = refl
 none_given_up (e ∷ es) others h = ap (λ (b : Bool). b || has_given_up (es ++ others)) (event_keeps e h.0) ∙ none_given_up es others h.1
 
-moving_given_up : (s : Script) (wish : Option ℕ) (ending : Ending) (moving after : List Line) → AreMoving s 1 wish ending moving → AreEvents after →
+moving_given_up : (s : Script) (wish : Option ℕ) (ending : Ending) (moving after : List Line) → AreMoving s wish ending moving → AreEvents after →
     has_given_up (moving ++ (after ++ line.End ∷ [])) ≡ gives_up ending
 moving_given_up s None Done moving after are second = ap (λ (ls : List Line). has_given_up (ls ++ (after ++ line.End ∷ []))) are ∙ none_given_up after (line.End ∷ []) second
 moving_given_up s None GaveUp moving after are second = absurd are
@@ -133,31 +68,17 @@ moving_given_up s (Some turn) Done moving after are second = ap (λ (ls : List L
 moving_given_up s (Some turn) GaveUp moving after are second = ap (λ (ls : List Line). has_given_up (ls ++ (after ++ line.End ∷ []))) are
 
 -- a run's lines have `give up` exactly where it gave its move up
-pub given_up_is : (s : Script) (wish : Option ℕ) (ending : Ending) (before moving after : List Line) → AreEvents before → AreMoving s 1 wish ending moving → AreEvents after →
+pub given_up_is : (s : Script) (wish : Option ℕ) (ending : Ending) (before moving after : List Line) → AreEvents before → AreMoving s wish ending moving → AreEvents after →
     has_given_up (framed (before ++ (moving ++ after))) ≡ gives_up ending
 given_up_is s wish ending before moving after first are second =
     ap has_given_up (whole_lines before moving after) ∙ none_given_up before (moving ++ (after ++ line.End ∷ [])) first ∙ moving_given_up s wish ending moving after are second
 
-same_option : (o : Option (List Line)) → o ≡ option_map (λ (before : List Line). before) o
-same_option None = refl
-same_option (Some before) = refl
-
--- where events come first
-resume_later : (es others : List Line) → AreEvents es → lines_before_resume (es ++ others) ≡ option_map (λ (before : List Line). es ++ before) (lines_before_resume others)
-resume_later [] others h = same_option (lines_before_resume others)
-resume_later (e ∷ es) others h =
-    event_passes e h.0 (es ++ others) ∙ ap (option_map (λ (before : List Line). e ∷ before)) (resume_later es others h.1) ∙ twice (lines_before_resume others)
-  where
-    twice : (o : Option (List Line)) → option_map (λ (before : List Line). e ∷ before) (option_map (λ (before : List Line). es ++ before) o) ≡ option_map (λ (before : List Line). e ∷ (es ++ before)) o
-    twice None = refl
-    twice (Some before) = refl
-
 -- a run whose guest was moved has its first events before `resume to`
-pub resumed : (s : Script) (before moving after : List Line) → AreEvents before → moving ≡ moving_lines s 1 Done → events_before_resume (framed (before ++ (moving ++ after))) ≡ Some before
+pub resumed : (s : Script) (before moving after : List Line) → AreEvents before → moving ≡ moving_lines s Done → events_before_resume (framed (before ++ (moving ++ after))) ≡ Some before
 resumed s before moving after first are =
     ap events_before_resume (whole_lines before moving after) ∙ ap (λ (ls : List Line). events_before_resume (line.Title ∷ line.Ready ∷ before ++ (ls ++ (after ++ line.End ∷ [])))) are
-    ∙ ap (λ (o : Option (List Line)). option_map events_of (option_map (λ (b : List Line). line.Title ∷ b) (option_map (λ (b : List Line). line.Ready ∷ b) o))) (resume_later before (moving_lines s 1 Done ++ (after ++ line.End ∷ [])) first)
-    ∙ ap (λ (es : List Line). Some es) (filter-append is_event before (line.Migrate ∷ line.Suspend ∷ line.Pause s.head.blocks ((set_of s.head 1).pages + 2) ∷ []) ∙ append-nil (events_of before) ∙ all_events before first)
+    ∙ ap (λ (o : Option (List Line)). option_map events_of (option_map (λ (b : List Line). line.Title ∷ b) (option_map (λ (b : List Line). line.Ready ∷ b) o))) (resume_later before (moving_lines s Done ++ (after ++ line.End ∷ [])) first)
+    ∙ ap (λ (es : List Line). Some es) (filter-append is_event before (line.Migrate ∷ line.Suspend ∷ line.Pause s.head.blocks (window_pages s.head) ∷ []) ∙ append-nil (events_of before) ∙ all_events before first)
 
 -- another has no `resume to`
 pub not_resumed : (s : Script) (before moving after : List Line) → AreEvents before → AreEvents after → lines_before_resume (moving ++ (after ++ line.End ∷ [])) ≡ None →
@@ -170,7 +91,7 @@ not_resumed s before moving after first second none =
 pub stayed_unresumed : (after moving : List Line) → AreEvents after → moving ≡ [] → lines_before_resume (moving ++ (after ++ line.End ∷ [])) ≡ None
 stayed_unresumed after moving second are = ap (λ (ls : List Line). lines_before_resume (ls ++ (after ++ line.End ∷ []))) are ∙ resume_later after (line.End ∷ []) second
 
-pub given_up_unresumed : (s : Script) (after moving : List Line) → AreEvents after → moving ≡ moving_lines s 1 GaveUp → lines_before_resume (moving ++ (after ++ line.End ∷ [])) ≡ None
+pub given_up_unresumed : (s : Script) (after moving : List Line) → AreEvents after → moving ≡ moving_lines s GaveUp → lines_before_resume (moving ++ (after ++ line.End ∷ [])) ≡ None
 given_up_unresumed s after moving second are =
     ap (λ (ls : List Line). lines_before_resume (ls ++ (after ++ line.End ∷ []))) are
     ∙ ap (λ (o : Option (List Line)). option_map (λ (b : List Line). line.Migrate ∷ b) (option_map (λ (b : List Line). line.Suspend ∷ b) (option_map (λ (b : List Line). line.GiveUp ∷ b) o))) (resume_later after (line.End ∷ []) second)

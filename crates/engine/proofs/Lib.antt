@@ -4,5 +4,5 @@ pub mod ReadLemmas
 pub mod HistoryLemmas
 pub mod SizeLemmas
 pub mod NamespaceLemmas
-pub mod LaneLemmas
+pub mod HostLemmas
 pub mod TopLemmas

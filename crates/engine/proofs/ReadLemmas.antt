@@ -4,7 +4,6 @@ use Rattle.script.specs.declared.refusal.ParseRefusal.{ParseRefusal}
 use Rattle.script.specs.declared.refusal.ParseRefusal.TheVariants.{OutOfMemory}
 use Rattle.script.specs.declared.refusal.Why.{Why}
 use Rattle.script.proofs.OneBadLine.{no_bad_line}
-use Rattle.nvm_model.specs.declared.script.Head.{Head}
 use Rattle.script.specs.declared.refusal.Why.TheVariants.{Range}
 use Rattle.nvm_model.specs.ScriptText.{IsScript}
 use Rattle.engine.specs.declared.status.Status.{Status}
@@ -22,17 +21,11 @@ pub bad_spells_none : (told : Option (List ℕ)) (line : ℕ) (why : Why) → Te
 bad_spells_none None line why bad = tt
 bad_spells_none (Some text) line why bad = (bad.0, λ s taken spelled. no_bad_line text s (record { line = line; why = why }) taken.script spelled bad.1)
 
--- a head that asks for more at a line isn't built
-unbuilt_is : (head : Head) (line : ℕ) → IsUnbuilt head line → IsBuilt head → ⊥
-unbuilt_is head line (inl lanes) built = lanes.1 built.lanes
-unbuilt_is head line (inr (inl mix)) built = mix.2 built.mix
-unbuilt_is head line (inr (inr moves)) built = moves.3 built.moves
-
 -- a text that spells a script with such a head spells none that is taken
 pub unbuilt_spells_none : (told : Option (List ℕ)) (s : Script) (line : ℕ) → Spells told s → SpellsOnly told s → IsUnbuilt s.head line → SpellsNone told
 unbuilt_spells_none None s line spelled only unbuilt = tt
 unbuilt_spells_none (Some text) s line spelled only unbuilt =
-    (spelled.1, λ other taken is. unbuilt_is s.head line unbuilt (subst (λ (x : Script). IsBuilt x.head) (sym (only other taken.script is)) taken.built))
+    (spelled.1, λ other taken is. unbuilt.moves (subst (λ (x : Script). IsBuilt x.head) (sym (only other taken.script is)) taken.built).moves)
 
 -- why no script was read, as why nothing was run
 pub not_read : (told : Option (List ℕ)) (before now : ℕ) (from to : List ℕ) (status : Status) → IsReadRefusal told before now status → IsRefusal told before now from to status

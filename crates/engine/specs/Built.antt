@@ -1,4 +1,4 @@
-use Rattle.std.specs.Prelude.{◌≡◌, ◌⊎◌, ℕ, ◌≤◌, List, Option, Some, None, IfSome, length}
+use Rattle.std.specs.Prelude.{◌≡◌, ℕ, ◌+◌, ◌≤◌, List, Option, Some, None, IfSome, length}
 use Rattle.nvm_model.specs.declared.script.Head.{Head}
 use Rattle.nvm_model.specs.declared.script.Script.{Script}
 use Rattle.nvm_model.specs.World.{window_pages}
@@ -7,19 +7,14 @@ use Rattle.script.specs.declared.refusal.Why.{Why}
 use Rattle.script.specs.declared.refusal.Why.TheVariants.{Range}
 use Rattle.script.specs.BadLine.{IsBadLine}
 
--- The heads that are taken: one lane, no mixed order, and no migration but one that copies everything while the guest
--- is suspended.
+-- The heads that are taken: no migration but one that copies everything while the guests are suspended.
 pub record IsBuilt (head : Head) : Type 0 where
-  pub lanes : head.lanes ≡ 1
-  pub mix : head.mix ≡ 0
   pub moves : IfSome head.migrate (λ _. (head.small ≡ head.blocks) × (window_pages head ≤ head.pages))
 
--- the first line of a head that asks for more
-abbrev pub IsUnbuilt : Head → ℕ → Type 0
-IsUnbuilt head line =
-    ((line ≡ 4) × (head.lanes ≡ 1 → ⊥))
-    ⊎ ((line ≡ 7) × (head.lanes ≡ 1) × (head.mix ≡ 0 → ⊥))
-    ⊎ ((line ≡ 13) × (head.lanes ≡ 1) × (head.mix ≡ 0) × (IfSome head.migrate (λ _. (head.small ≡ head.blocks) × (window_pages head ≤ head.pages)) → ⊥))
+-- the line of `migrate` of a head that asks for more, which stands behind the lanes' lines
+pub record IsUnbuilt (head : Head) (line : ℕ) : Type 0 where
+  pub line_is : line ≡ head.lanes + 12
+  pub moves : IfSome head.migrate (λ _. (head.small ≡ head.blocks) × (window_pages head ≤ head.pages)) → ⊥
 
 -- the scripts that are taken: those of the grammar with such a head
 pub record IsTaken (s : Script) : Type 0 where

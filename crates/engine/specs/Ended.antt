@@ -1,14 +1,13 @@
-use Rattle.std.specs.Prelude.{◌≡◌, ℕ, Bool, true, false, List, [], ◌∷◌, Option, map}
+use Rattle.std.specs.Prelude.{ℕ, Bool, true, false, List, Option, map}
 use Rattle.nvm_model.specs.declared.script.Script.{Script}
 use Rattle.nvm_model.specs.Shelf.{joined}
-use Rattle.nvm_model.specs.World.{new_lane, set_of}
 use Rattle.session.specs.declared.ending.Ending.{Ending}
 use Rattle.session.specs.declared.ending.Ending.TheVariants.{Done, GaveUp}
-use Rattle.session.specs.Run.{HasRun, HasStopped, IfTold, framed}
+use Rattle.session.specs.Run.{HasRun, HasStopped, IfTold}
 use Rattle.engine.specs.declared.top.Stop.{Stop}
 use Rattle.engine.specs.declared.top.Stop.TheVariants.{NoMemory, Failed}
 
--- What hosts were before and are after a run of the script's one lane.
+-- What hosts were before and are after a run of the script.
 
 -- whether a run gave its migration up
 abbrev pub gives_up : Ending → Bool
@@ -30,21 +29,15 @@ pub record Media : Type 0 where
   pub shelves : List (Option (List (List ℕ)))
   pub faults : List ℕ
 
--- the window pages of a host's one guest
-pub record Alone (memory : List (List (List ℕ))) : Type 0 where
-  pub pages : List (List ℕ)
-  pub memory_is : memory ≡ pages ∷ []
-
 -- the run came to its end
 pub record HasEnded (s : Script) (ending : Ending) (from to : Media) (bytes : Option (List ℕ)) (new_from new_to : Media) (from_memory to_memory : List (List (List ℕ))) (new_bytes : Option (List ℕ)) : Type 0 where
-  pub from_alone : Alone from_memory
-  pub to_alone : Alone to_memory
-  pub run : IfTold (joined from.shelves) (joined to.shelves) (HasRun framed s 1 (new_lane (set_of s.head 1).pages) ending from.faults to.faults bytes
-      (joined new_from.shelves) from_alone.pages (joined new_to.shelves) to_alone.pages new_from.faults new_to.faults new_bytes)
+  pub run : IfTold (joined from.shelves) (joined to.shelves) (HasRun s ending from.faults to.faults bytes
+      (joined new_from.shelves) from_memory (joined new_to.shelves) to_memory new_from.faults new_to.faults new_bytes)
 
 -- the run stopped where the sink failed
 pub record HasBroken (s : Script) (from to : Media) (bytes : Option (List ℕ)) (new_from new_to : Media) (new_bytes : Option (List ℕ)) : Type 0 where
-  pub run : IfTold (joined from.shelves) (joined to.shelves) (HasStopped framed s 1 (new_lane (set_of s.head 1).pages) from.faults to.faults bytes new_from.faults new_to.faults new_bytes)
+  pub run : IfTold (joined from.shelves) (joined to.shelves) (HasStopped s from.faults to.faults bytes
+      (joined to.shelves) (joined new_from.shelves) (joined new_to.shelves) new_from.faults new_to.faults new_bytes)
 
 -- what media tell
 abbrev pub all_told : {M : Type 0} → (M → Option (List (List ℕ))) → (M → ℕ) → List M → Media

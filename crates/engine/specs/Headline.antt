@@ -1,4 +1,4 @@
-use Rattle.std.specs.Prelude.{◌≡◌, ℕ, ◌≤◌, List, ◌++◌, Option, Some, None, length, map, take}
+use Rattle.std.specs.Prelude.{◌≡◌, ℕ, List, ◌++◌, Option, Some, None, map}
 use Rattle.nvm_model.specs.declared.line.Line.{Line}
 use Rattle.nvm_model.specs.declared.script.Script.{Script}
 use Rattle.nvm_model.specs.declared.script.Head.{Head}
@@ -7,7 +7,9 @@ use Rattle.nvm_model.specs.Shelf.{joined}
 use Rattle.nvm_model.specs.World.{World}
 use Rattle.guest_ram.specs.Window.{WindowState}
 use Rattle.nvm_model.specs.History.{events_of, events_before_resume, Reaches, IsWhole}
+use Rattle.nvm_model.specs.Stop.{StopsAt}
 use Rattle.nvm_model.specs.Text.{IsTranscript}
+use Rattle.nvm_model.specs.Turn.{RunsInTurns}
 use Rattle.engine.specs.Built.{IsTaken, Spells}
 
 -- What a run left, beside the hosts.
@@ -32,13 +34,15 @@ Ran input None other before after P = Unit {0}
 Ran input (Some blocks) None before after P = Unit {0}
 Ran input (Some blocks) (Some other) None after P = Unit {0}
 
--- The sink took a front of the text of such a run.
-abbrev pub Began : Option (List ℕ) → Option (List (List ℕ)) → Option (List (List ℕ)) → Option (List ℕ) → Option (List ℕ) → (Script → List (List ℕ) → List Line → World → Type 0) → Type 0
-Began input (Some blocks) (Some other) (Some before) after P =
-    (text : List ℕ) × (n : ℕ) × (n ≤ length text) × (after ≡ Some (before ++ take n text)) × (run : Run input blocks text) × P run.script blocks run.lines run.world
-Began input None other before after P = Unit {0}
-Began input (Some blocks) None before after P = Unit {0}
-Began input (Some blocks) (Some other) None after P = Unit {0}
+-- The sink took a front of the lines of such a run: some of them whole, and a part of the next. What was done and not
+-- written is of one turn at most, and one host holds the blocks that all of it leads to.
+abbrev pub Began : Option (List ℕ) → Option (List (List ℕ)) → Option (List (List ℕ)) → Option (List ℕ) → Option (List ℕ) → Option (List (List ℕ)) → Option (List (List ℕ)) → (Script → List (List ℕ) → List Line → World → Type 0) → Type 0
+Began input (Some blocks) (Some other) (Some before) after from_told to_told P =
+    (text : List ℕ) × (run : Run input blocks text) × (turns : RunsInTurns run.script blocks run.lines run.world)
+    × StopsAt run.script blocks (turns.before ++ turns.after) run.lines (Some before) after from_told (Some other) to_told × P run.script blocks run.lines run.world
+Began input None other before after from_told to_told P = Unit {0}
+Began input (Some blocks) None before after from_told to_told P = Unit {0}
+Began input (Some blocks) (Some other) None after from_told to_told P = Unit {0}
 
 -- a host's guest memory: each lane's window pages, rings included
 abbrev pub whole_memory : List WindowState → List (List (List ℕ))

@@ -1,14 +1,19 @@
-use Rattle.std.specs.Prelude.{◌≡◌, ◌≤◌, [], ◌∷◌, vec_capacity}
+use Rattle.std.specs.Prelude.{◌≡◌, List, take, map}
+use Rattle.nvm_model.specs.declared.script.Head.{Head}
+use Rattle.nvm_model.specs.declared.script.LaneSet.{LaneSet}
 use Rattle.nvm_model.specs.declared.script.Script.{Script}
 use Rattle.guest_ram.specs.Ram.{windows_made}
-use Rattle.session.specs.State.{IsLaneOf, IsNewPair}
+use Rattle.guest_ram.specs.Window.{WindowState}
+use Rattle.session.specs.Lanes.{IsNewSession, IsSession}
 use Rattle.engine.specs.declared.room.Room.{Room}
 
--- The room of a run of the script's one lane: all at its start, and large enough.
+-- the memory of the lanes' guests as it is made
+abbrev pub memory_made : Head → List WindowState
+memory_made head = windows_made 1 (map (λ (set : LaneSet). set.pages) (take head.lanes head.sets))
+
+-- The room of a run of the script: all at its start.
 pub record IsRoom (s : Script) (room : Room) : Type 0 where
-  pub lane : room.lane.lane ≡ 1
-  pub lane_of : IsLaneOf s room.lane
-  pub new : IsNewPair room.lane s.head.burst room.pair
-  pub events : 4608 ≤ vec_capacity room.events
-  pub from_ram : room.from_ram ≡ windows_made 1 (room.lane.set.pages ∷ [])
-  pub to_ram : room.to_ram ≡ windows_made 1 (room.lane.set.pages ∷ [])
+  pub session : IsSession s room.session
+  pub new : IsNewSession s room.session
+  pub from_ram : room.from_ram ≡ memory_made s.head
+  pub to_ram : room.to_ram ≡ memory_made s.head

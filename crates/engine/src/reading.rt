@@ -48,30 +48,40 @@ fn take_script(alloc: Global, text: &[u8]) -> Result<Script, Status>
     }
 }
 
-/// The first line of the head that asks for what isn't built yet.
+/// The line of the head that asks for what isn't built yet: that of `migrate`, behind the lanes' lines.
 pub(crate) fn unbuilt_line(head: &Head) -> Option<u32>
+    requires { head.now.lanes ≤ 8 }
     ensures built { IfNone result (IsBuilt head.now) }
     ensures unbuilt { IfSome result (IsUnbuilt head.now) }
 {
-    if head.lanes != 1 {
-        Some(4)
-    } else if head.mix != 0 {
-        Some(7)
-    } else if !moves_suspended(head) {
-        Some(13)
-    } else {
+    if moves_suspended(head) {
         None
+    } else {
+        Some(u32::from(head.lanes) + 12)
     }
 }
 
-/// Whether a migration of the one lane, where the head asks for one, copies everything while the guest is suspended.
+/// Whether a migration, where the head asks for one, copies everything while the guests are suspended.
 fn moves_suspended(head: &Head) -> bool
-    requires { head.now.lanes ≡ 1 }
+    requires { head.now.lanes ≤ 8 }
     ensures yes { result ≡ true → IfSome head.now.migrate (λ _. (head.now.small ≡ head.now.blocks) × (window_pages head.now ≤ head.now.pages)) }
     ensures no { result ≡ false → IfSome head.now.migrate (λ _. (head.now.small ≡ head.now.blocks) × (window_pages head.now ≤ head.now.pages)) → ⊥ }
 {
     match head.migrate {
         None => true,
-        Some(_) => head.small == head.blocks && u32::from(head.sets[0].pages) + 2 <= head.pages,
+        Some(_) => head.small == head.blocks && window_pages(head) <= head.pages,
     }
+}
+
+/// The window pages of all lanes: two for the queues of each, and its data pages.
+fn window_pages(head: &Head) -> u32
+    requires { head.now.lanes ≤ 8 }
+    ensures { result ≡ window_pages head.now }
+{
+    let sets = &head.sets[..usize::from(head.lanes)];
+    let mut pages = 0;
+    for set in sets {
+        pages += u32::from(set.pages) + 2;
+    }
+    pages
 }

@@ -1,25 +1,18 @@
 // What a run needs beside the hosts, taken before its first line.
-ghost use Rattle.std.specs.Prelude.{◌≡◌, ◌≤◌, ◌∷◌, [], IfOk, vec_capacity};
-ghost use Rattle.engine.specs.Built.{IsTaken};
-ghost use Rattle.engine.specs.Room.{IsRoom};
-ghost use Rattle.nvm_model.specs.World.{set_of};
-ghost use Rattle.guest_ram.specs.Ram.{windows_made};
-ghost use Rattle.session.specs.State.{IsLaneOf};
+ghost use Rattle.std.specs.Prelude.{◌≡◌, IfOk};
+ghost use Rattle.nvm_model.specs.ScriptText.{IsHead, IsScript};
+ghost use Rattle.engine.specs.Room.{IsRoom, memory_made};
 
 use guest_ram::Ram;
-use mig_base::{LaneNo, OutOfMemory};
-use nvm_model::Line;
-use script::Script;
-use session::{LaneScript, MOST_EVENTS, QueuePair};
+use mig_base::OutOfMemory;
+use script::{Head, Script};
+use session::Session;
 use std::alloc::Global;
 
-/// The room of a run of one lane: what the script says of it, its queue pair, the events of a turn, and guest memory for
-/// either host.
+/// The room of a run: the controller and the guests of the script's lanes, and guest memory for either host.
 #[derive(Drop)]
 pub(crate) struct Room {
-    pub lane: LaneScript,
-    pub pair: QueuePair,
-    pub events: Vec<Line>,
+    pub session: Session,
     pub from_ram: Ram,
     pub to_ram: Ram,
 }
@@ -30,28 +23,25 @@ pub(crate) struct Room {
 ///
 /// `OutOfMemory` where there is no memory for it.
 pub(crate) fn make_room(alloc: Global, script: &Script) -> Result<Room, OutOfMemory>
-    requires { IsTaken script.now }
+    requires { IsScript script.now }
     ensures { IfOk result (IsRoom script.now) }
 {
-    let lane = LaneScript::make(alloc, script, LaneNo::new(1).unwrap())?;
-    let pair = QueuePair::make(alloc, script, &lane)?;
-    let events = Vec::with_capacity(alloc, MOST_EVENTS)?;
-    let from_ram = make_ram(alloc, &lane)?;
-    let to_ram = make_ram(alloc, &lane)?;
+    let session = Session::make(alloc, script)?;
+    let from_ram = make_ram(alloc, &script.head)?;
+    let to_ram = make_ram(alloc, &script.head)?;
     Ok(Room {
-        lane,
-        pair,
-        events,
+        session,
         from_ram,
         to_ram,
     })
 }
 
-/// The memory of the lane's guest.
-fn make_ram(alloc: Global, lane: &LaneScript) -> Result<Ram, OutOfMemory>
-    requires { (1 ≤ lane.now.set.pages) × (lane.now.set.pages ≤ 256) }
-    ensures { IfOk result (λ ram. ram ≡ windows_made 1 (lane.now.set.pages ∷ [])) }
+/// The memory of the lanes' guests.
+fn make_ram(alloc: Global, head: &Head) -> Result<Ram, OutOfMemory>
+    requires { IsHead head.now }
+    ensures { IfOk result (λ ram. ram ≡ memory_made head.now) }
 {
-    let counts = [lane.set.pages];
+    let sets = &head.sets[..usize::from(head.lanes)];
+    let counts: Vec<u16> = sets.iter().map(|set| set.pages).collect(alloc)?;
     Ram::make(alloc, &counts)
 }

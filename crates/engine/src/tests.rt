@@ -7,6 +7,7 @@ use std::process::Abort;
 use std::test::Fail;
 use std::thread::Threads;
 
+mod many_lanes;
 mod rows;
 mod shows;
 

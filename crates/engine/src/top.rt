@@ -3,6 +3,7 @@ ghost use Rattle.std.specs.Prelude.{◌≡◌, ◌≤◌, ◌/◌, ◌++◌, [],
 ghost use Rattle.mig_base.specs.Count.{HasCause, RiseBy, RisesBy};
 ghost use Rattle.nvm_model.specs.History.{Complete, faults_shown, has_given_up};
 ghost use Rattle.nvm_model.specs.Shelf.{joined};
+ghost use Rattle.nvm_model.specs.Turn.{RunsInTurns};
 ghost use Rattle.nvm_blocks.specs.Namespace.{media_of};
 ghost use Rattle.session.specs.Shelves.{IsNamespaceOf};
 ghost use Rattle.engine.specs.Ended.{HasBroken, HasEnded, OnFailed, OnNoMemory, all_told};
@@ -46,6 +47,9 @@ pub fn nvmigrate<R: Threads + Sync, S: Source, K: Sink, M: Medium + Send, G: Gat
     // The text is a whole transcript for the script that the input spelled, and its events are a legal history.
     ensures history { IfRuns (map string_bytes words.now) (OnEnded result (Ran (S.left input.old) (joined (map M.blocks from.old.shelves.items)) (joined (map M.blocks to.old.shelves.items)) (K.bytes output.old) (K.bytes output.new)
         (λ script blocks lines world. Unit {0}))) }
+    // The events stand in turns, whose pieces have the script's order, and the migration stands where the script asks for it.
+    ensures turns { IfRuns (map string_bytes words.now) (OnEnded result (Ran (S.left input.old) (joined (map M.blocks from.old.shelves.items)) (joined (map M.blocks to.old.shelves.items)) (K.bytes output.old) (K.bytes output.new)
+        (λ script blocks lines world. RunsInTurns script blocks lines world))) }
     // Each guest did its acts, and each of its commands was fetched, done, posted and reaped.
     ensures complete { IfRuns (map string_bytes words.now) (OnEnded result (Ran (S.left input.old) (joined (map M.blocks from.old.shelves.items)) (joined (map M.blocks to.old.shelves.items)) (K.bytes output.old) (K.bytes output.new)
         (λ script blocks lines world. Complete script world))) }
@@ -61,8 +65,10 @@ pub fn nvmigrate<R: Threads + Sync, S: Source, K: Sink, M: Medium + Send, G: Gat
     // The answer says that the migration was given up exactly where the text does.
     ensures gave_up { IfRuns (map string_bytes words.now) (OnEnded result (Ran (S.left input.old) (joined (map M.blocks from.old.shelves.items)) (joined (map M.blocks to.old.shelves.items)) (K.bytes output.old) (K.bytes output.new)
         (λ script blocks lines world. has_given_up lines ≡ is_gave_up result))) }
-    // Where the output failed, a front of the text of such a run was written.
+    // Where the output failed, some lines of such a run were written whole and a part of the next, at most one turn's
+    // events were done and not written, and one host holds the blocks of the world that they reach.
     ensures sink { IfRuns (map string_bytes words.now) (OnWriteFault result (Began (S.left input.old) (joined (map M.blocks from.old.shelves.items)) (joined (map M.blocks to.old.shelves.items)) (K.bytes output.old) (K.bytes output.new)
+        (joined (map M.blocks from.new.shelves.items)) (joined (map M.blocks to.new.shelves.items))
         (λ script blocks lines world. Complete script world × RiseBy (faults_shown lines)
         (map M.faults from.old.shelves.items ++ map M.faults to.old.shelves.items) (map M.faults from.new.shelves.items ++ map M.faults to.new.shelves.items)))) }
     ensures before_run { OnRefused result ((K.bytes output.new ≡ K.bytes output.old)
@@ -220,9 +226,7 @@ fn run_namespaces<K: Sink, M: Medium>(
     let mut from_namespace = from_namespace;
     let mut to_namespace = to_namespace;
     let Room {
-        lane,
-        mut pair,
-        mut events,
+        mut session,
         from_ram,
         to_ram,
     } = room;
@@ -230,9 +234,7 @@ fn run_namespaces<K: Sink, M: Medium>(
     to.ram = to_ram;
     let ended = run(
         script,
-        &lane,
-        &mut pair,
-        &mut events,
+        &mut session,
         &mut from.ram,
         &mut from_namespace,
         &mut to.ram,

@@ -1,10 +1,17 @@
-use Rattle.std.proofs.Common.{◌≡◌, add-zero, ℕ, ◌+◌, ◌<◌, List, [], ◌∷◌, ◌++◌, Option, Some, None, length, take, drop, get_or, slice_set, refl, sym, ap, subst, ◌∙◌, arith}
-use Rattle.std.proofs.lemmas.List.{take_more, take_more_set, take_all, length-append}
+use Rattle.std.proofs.Common.{◌≡◌, ℕ, ◌+◌, ◌-◌, ◌<◌, ◌≤◌, List, [], ◌∷◌, ◌++◌, Option, Some, None, length, map, sum, take, drop, get_or, slice_set, refl, sym, ap, subst, ◌∙◌, arith}
+use Rattle.std.proofs.lemmas.List.{take_more, take_more_set, take_all, length-append, length-map, length-take-le, ext_get_or, get_or-take, get_or-map as get_or_map}
+use Rattle.std.proofs.lemmas.List.Concat.{length-flat_map}
+use Rattle.std.proofs.lemmas.List.Sums.{sum-map}
+use Rattle.std.proofs.Math.ListN.{get_or-map}
 use Rattle.std.proofs.Math.Seq.{take-append_seam, drop-append_seam}
 use Rattle.guest_ram.specs.Ram.{all_pages, shape}
-use Rattle.guest_ram.specs.Window.{WindowState}
+use Rattle.guest_ram.specs.Window.{WindowState, no_window}
 use Rattle.nvm_model.specs.declared.script.Script.{Script}
+use Rattle.nvm_model.specs.declared.script.LaneSet.{LaneSet}
 use Rattle.nvm_model.specs.History.{faults_shown}
+use Rattle.nvm_model.specs.ScriptText.{IsHead}
+use Rattle.nvm_model.specs.World.{window_pages}
+use Rattle.session.specs.Lanes.{HaveWindows, IsWindowOf}
 use Rattle.session.specs.declared.ending.Ending.{Ending}
 use Rattle.session.specs.declared.ending.Ending.TheVariants.{Done, GaveUp}
 use Rattle.session.specs.Run.{moving_lines}
@@ -70,17 +77,68 @@ all_pages_copied n from to same all copied =
     let many = as_many_pages to from same in
     same_memory to from same (all_copied n (all_pages from) (all_pages to) (sym all) (many ∙ sym all) copied)
 
--- the pages of the one window
-pub one_window : (ram : List WindowState) (k n : ℕ) → shape ram ≡ (k, n) ∷ [] → length (all_pages ram) ≡ n
-one_window [] k n same = cc
-one_window (w ∷ []) k n same = length-append w.pages [] ∙ add-zero (length w.pages) ∙ ap (λ (s : ℕ × ℕ). s.1) (heads same)
-one_window (w ∷ v ∷ ram) k n same = cc
+-- The windows of a script.
+
+-- a window's lane and its number of pages
+abbrev size_of : WindowState → ℕ × ℕ
+size_of w = (w.lane, length w.pages)
+
+-- what a memory's shape says of the window at a place
+shape_at : (windows : List WindowState) (i : ℕ) → get_or (shape windows) i (0, 0) ≡ size_of (get_or windows i no_window)
+shape_at windows i = get_or-map size_of windows i no_window
+
+-- the window at a place is that of the lane with the next number
+at_place : {s : Script} {windows : List WindowState} → HaveWindows s windows → (i : ℕ) → i < s.head.lanes → IsWindowOf s (i + 1) (get_or windows i no_window)
+at_place {s} {windows} have i there =
+    let place : i + 1 - 1 ≡ i = omega arith in
+    subst (λ (j : ℕ). IsWindowOf s (i + 1) (get_or windows j no_window)) place (have.each (i + 1) (omega arith) (omega (arith, there)))
+
+-- two memories of a script have one shape
+pub one_shape : {s : Script} {a b : List WindowState} → HaveWindows s a → HaveWindows s b → shape a ≡ shape b
+one_shape {s} {a} {b} have other =
+    let long : length (shape a) ≡ s.head.lanes = length-map a size_of ∙ have.count in
+    let as_long : length (shape b) ≡ s.head.lanes = length-map b size_of ∙ other.count in
+    ext_get_or (0, 0) (shape a) (shape b) (long ∙ sym as_long) (λ i inside.
+    let there : i < s.head.lanes = omega (arith, inside, long) in
+    let v = at_place have i there in
+    let w = at_place other i there in
+    shape_at a i ∙ ap (λ (k : ℕ). (k, length (get_or a i no_window).pages)) (v.lane ∙ sym w.lane)
+    ∙ ap (λ (n : ℕ). ((get_or b i no_window).lane, n)) (v.size ∙ sym w.size) ∙ sym (shape_at b i))
+
+-- a memory of this shape is one of the script, too
+pub same_windows : {s : Script} {windows new : List WindowState} → HaveWindows s windows → shape new ≡ shape windows → HaveWindows s new
+same_windows {s} {windows} {new} have same =
+    record {
+      count = sym (length-map new size_of) ∙ ap (λ (shapes : List (ℕ × ℕ)). length shapes) same ∙ length-map windows size_of ∙ have.count;
+      each = λ k low high.
+          let w = have.each k low high in
+          let at = sym (shape_at new (k - 1)) ∙ ap (λ (shapes : List (ℕ × ℕ)). get_or shapes (k - 1) (0, 0)) same ∙ shape_at windows (k - 1) in
+          record { lane = ap (λ (p : ℕ × ℕ). p.0) at ∙ w.lane; size = ap (λ (p : ℕ × ℕ). p.1) at ∙ w.size };
+    }
+
+-- a memory has as many pages as the script says
+pub have_pages : {s : Script} {windows : List WindowState} → IsHead s.head → HaveWindows s windows → length (all_pages windows) ≡ window_pages s.head
+have_pages {s} {windows} head have =
+    let sets = take s.head.lanes s.head.sets in
+    let none : LaneSet = record { sq = 0; cq = 0; pages = 0 } in
+    let many = λ (w : WindowState). length w.pages in
+    let wanted = λ (set : LaneSet). set.pages + 2 in
+    let enough : s.head.lanes ≤ length s.head.sets = omega (arith, head.sets.0, head.lanes.1) in
+    let as_long : length sets ≡ s.head.lanes = length-take-le s.head.lanes s.head.sets enough in
+    let long : length (map many windows) ≡ s.head.lanes = length-map windows many ∙ have.count in
+    let same : map many windows ≡ map wanted sets =
+    ext_get_or 0 (map many windows) (map wanted sets) (long ∙ sym (length-map sets wanted ∙ as_long)) (λ i inside.
+    let there : i < s.head.lanes = omega (arith, inside, long) in
+    let place : i + 1 - 1 ≡ i = omega arith in
+    get_or-map many windows i no_window ∙ (at_place have i there).size ∙ ap (λ (j : ℕ). wanted (get_or s.head.sets j none)) place ∙ ap wanted (sym (get_or-take s.head.lanes s.head.sets i none there))
+    ∙ sym (get_or_map wanted sets i none 0 (omega (arith, there, as_long)))) in
+    length-flat_map (λ (w : WindowState). w.pages) windows ∙ sym (sum-map many windows) ∙ ap sum same
 
 -- a move shows a fault only where one rose
-pub moves_rose : (s : Script) (k : ℕ) (ending : Ending) (from to new_from new_to : List ℕ) → NeverFall from new_from → NeverFall to new_to → OneRose ending from to new_from new_to →
-    RiseBy (faults_shown (moving_lines s k ending)) (from ++ to) (new_from ++ new_to)
-moves_rose s k Done from to new_from new_to from_later to_later rose = rise_none (from ++ to) (new_from ++ new_to) (never_both from new_from to new_to from_later to_later)
-moves_rose s k GaveUp from to new_from new_to from_later to_later rose = rose
+pub moves_rose : (s : Script) (ending : Ending) (from to new_from new_to : List ℕ) → NeverFall from new_from → NeverFall to new_to → OneRose ending from to new_from new_to →
+    RiseBy (faults_shown (moving_lines s ending)) (from ++ to) (new_from ++ new_to)
+moves_rose s Done from to new_from new_to from_later to_later rose = rise_none (from ++ to) (new_from ++ new_to) (never_both from new_from to new_to from_later to_later)
+moves_rose s GaveUp from to new_from new_to from_later to_later rose = rose
 
 -- counts rose that hadn't fallen before
 pub rose_after : (a b c : List ℕ) → NeverFall a b → NeverFall b c → RiseBy 1 b c → RiseBy 1 a c

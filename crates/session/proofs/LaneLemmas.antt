@@ -1,4 +1,4 @@
-use Rattle.std.proofs.Common.{◌≡◌, ◌==◌, ℕ, suc, ◌-◌, ◌<◌, ◌≤◌, Bool, true, false, cond, List, [], ◌∷◌, length, take, filter, map, refl, subst, arith}
+use Rattle.std.proofs.Common.{◌≡◌, ◌==◌, ℕ, zero, suc, ◌+◌, ◌-◌, ◌<◌, ◌≤◌, Bool, true, false, cond, List, [], ◌∷◌, ◌++◌, length, take, filter, map, refl, slice_index_or, subst, arith}
 use Rattle.std.specs.List.{AllByRecursion}
 use borrow.Author.Tests.{eqb-true}
 use Rattle.std.proofs.lemmas.List.{get_or-take, length-take-le}
@@ -36,3 +36,11 @@ set_fits h k head low high =
     let there : k - 1 < length (take h.lanes h.sets) = rw (length-take-le h.lanes h.sets enough) (omega arith) in
     subst IsSet (get_or-take h.lanes h.sets (k - 1) none (omega arith))
     (All-get_or IsSet (take h.lanes h.sets) (k - 1) none there (All-from_recursion IsSet (take h.lanes h.sets) head.sets.1))
+
+-- what holds at each place of a list and of one element more holds at each place of both
+pub each_pushed : {X : Type 0} (P : ℕ → X → Type 0) (xs : List X) (x : X) → ((i : ℕ) (d : X) → i < length xs → P i (slice_index_or xs i d)) → P (length xs) x →
+    (i : ℕ) (d : X) → i < length xs + 1 → P i (slice_index_or (xs ++ x ∷ []) i d)
+each_pushed P [] x each last zero d there = last
+each_pushed P [] x each last (suc i) d there = absurd (omega (arith, there))
+each_pushed P (y ∷ xs) x each last zero d there = each 0 d (omega arith)
+each_pushed P (y ∷ xs) x each last (suc i) d there = each_pushed (λ (j : ℕ). P (suc j)) xs x (λ j e within. each (suc j) e (omega (arith, within))) last i d (omega (arith, there))

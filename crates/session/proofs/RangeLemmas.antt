@@ -1,12 +1,12 @@
-use Rattle.std.proofs.Common.{◌≡◌, ℕ, zero, suc, ◌+◌, ◌-◌, ◌*◌, ◌/◌, ◌%◌, ◌^◌, ◌<◌, ◌≤◌, Bool, true, false, cond, List, [], ◌∷◌, Option, Some, None, All, length, take, drop, get_or, refl, sym, subst, arith}
+use Rattle.std.proofs.Common.{◌≡◌, ℕ, zero, suc, ◌+◌, ◌-◌, ◌*◌, ◌/◌, ◌%◌, ◌^◌, ◌<◌, ◌≤◌, Bool, true, false, cond, List, [], ◌∷◌, Option, Some, None, All, length, map, take, drop, get_or, slice_set, refl, sym, ap, subst, ◌∙◌, arith}
 use Rattle.std.specs.List.{AllByRecursion, slice_get}
 use Rattle.std.specs.Option.{IfSome}
 use Rattle.std.specs.Int.{w16, w32, from_le_bytes, to_be_bytes}
 use Rattle.std.specs.Prelude.{slice_index}
 use Rattle.std.proofs.Math.Nat.{div-le_self, div-mul-le_self, max-le}
 use Rattle.std.proofs.lemmas.Nat.{le-div, mod_below, mul-le}
-use Rattle.std.proofs.lemmas.List.{length-take-le, length-drop}
-use Rattle.std.proofs.lemmas.List.Elements.{All-nil, All-cons, All-head, All-tail, All-same, All-from_recursion, All-get_or, All-append, All-push, All-set, All-take, All-drop}
+use Rattle.std.proofs.lemmas.List.{length-take-le, length-drop, length-set}
+use Rattle.std.proofs.lemmas.List.Elements.{All-nil, All-cons, All-head, All-tail, All-same, All-from_recursion, All-get_or, All-append, All-push, All-set, All-take, All-drop, recursion_from_All}
 use Rattle.std.proofs.lemmas.Option.{get_or_from_slice_get, slice_get_within}
 use Rattle.sha2.specs.Sha256.{sha256, digest_bytes}
 use Rattle.sha2.proofs.Facts256.{length-sha256}
@@ -26,25 +26,34 @@ use Rattle.nvm_model.specs.declared.line.Line.{Line}
 use Rattle.nvm_model.specs.declared.line.Line.TheVariants as line
 use Rattle.nvm_model.specs.declared.script.Act.{Act}
 use Rattle.nvm_model.specs.declared.script.Act.TheVariants.{Fill, Poke, List as PrpList, Submit, Raw, Wait, Idle}
+use Rattle.nvm_model.specs.declared.script.LaneSet.{LaneSet}
 use Rattle.nvm_model.specs.declared.script.Script.{Script}
 use Rattle.nvm_model.specs.Check.{first_holding, identifiers, fetched_command, checked_command, opened, has_bad_pages}
-use Rattle.nvm_model.specs.Event.{submitted_by, DoesAct, Reaps, Fetches, Posts, DoesPiece, LaneStep, lane_number}
+use Rattle.nvm_model.specs.Event.{submitted_by, DoesAct, Reaps, Fetches, Posts, DoesPiece, LaneStep, One, lane_number}
+use Rattle.nvm_model.specs.History.{Steps}
 use Rattle.nvm_model.specs.Piece.{piece_count, piece_at, pieces_left, OutcomeFits, MovesTo, ComparesTo, bytes_of, digest_after, outcome_status, is_success, after_piece}
-use Rattle.nvm_model.specs.ScriptText.{IsSet, IsAct, IsHead}
+use Rattle.nvm_model.specs.ScriptText.{IsSet, IsAct, IsHead, IsScript}
 use Rattle.nvm_model.specs.Text.{IsStatus, IsOutcome, IsDigest, DigestMayStand, IsLine}
-use Rattle.nvm_model.specs.World.{Lane, set_of, acts_of}
+use Rattle.nvm_model.specs.Turn.{Turns, events_in}
+use Rattle.nvm_model.specs.World.{Lane, World, lane_of, new_lane, set_of, acts_of}
 use Rattle.nvm_cmd.specs.Check.{early_tests, early_verdict, HasPassed}
-use Rattle.session.specs.Goes.{LaneSteps}
-use Rattle.session.specs.Range.{IsWorkOf, IsCommandOf, IsEntry, IsCompletion, IsInRange}
+use Rattle.session.specs.Range.{IsWorkOf, IsCommandOf, IsEntry, IsCompletion, IsInRange, AreInRange}
+use Rattle.session.specs.Lanes.{start_lanes}
+use Rattle.session.proofs.LaneLemmas.{acts_few, acts_fit, set_fits}
+use Rattle.turns.proofs.FrameLemmas.{turns_steps}
 use Rattle.nvm_cmd.proofs.CheckLemmas.{stopped, passed_on, has_passed}
 
--- a new lane is in range
-pub new_in_range : (s : Script) (lane : Lane) → lane.submitted ≡ [] → lane.running ≡ [] → lane.posted ≡ [] → IsInRange s lane
-new_in_range s lane none_submitted none_running none_posted = record {
-  entries = All-same IsEntry lane.submitted [] none_submitted (All-nil IsEntry);
-  running = All-same (IsCommandOf s.head.blocks) lane.running [] none_running (All-nil (IsCommandOf s.head.blocks));
-  posted = All-same IsCompletion lane.posted [] none_posted (All-nil IsCompletion);
-}
+-- new lanes are in range
+new_in_range : (s : Script) (sets : List LaneSet) → AreInRange s (map (λ (set : LaneSet). new_lane set.pages) sets)
+new_in_range s [] = tt
+new_in_range s (set ∷ sets) = (
+  record { entries = All-nil IsEntry; running = All-nil (IsCommandOf s.head.blocks); posted = All-nil IsCompletion },
+  new_in_range s sets,
+)
+
+-- the lanes at the start are in range
+pub start_in_range : (s : Script) → AreInRange s (start_lanes s)
+start_in_range s = new_in_range s (take s.head.lanes s.head.sets)
 
 -- a script and the number of a lane of it
 record IsNumbered (s : Script) (k : ℕ) : Type 0 where
@@ -202,7 +211,7 @@ outcome_fits Verify same count outcome fits few = moved_fits count outcome fits 
 outcome_fits Flush same count outcome fits few = absurd fits
 
 -- no digest stands beside `differs`
-pub digest_may : (op : Op) (same : ℕ → Type 0) (count first n : ℕ) (blocks : List (List ℕ)) (outcome : Outcome) (digest : Option (List ℕ)) →
+digest_may : (op : Op) (same : ℕ → Type 0) (count first n : ℕ) (blocks : List (List ℕ)) (outcome : Outcome) (digest : Option (List ℕ)) →
     OutcomeFits op same count outcome → digest ≡ digest_after op first n blocks → DigestMayStand outcome digest
 digest_may op same count first n blocks Done digest fits is = tt
 digest_may op same count first n blocks (Faulted at) digest fits is = tt
@@ -322,17 +331,39 @@ step_in_range s line.ResumeTo blocks lane new_blocks new numbered range h = absu
 step_in_range s line.GiveUp blocks lane new_blocks new numbered range h = absurd h
 step_in_range s line.End blocks lane new_blocks new numbered range h = absurd h
 
-steps_in_range : (s : Script) (k : ℕ) (es : List Line) (blocks : List (List ℕ)) (lane : Lane) (new_blocks : List (List ℕ)) (new : Lane) →
-    IsNumbered s k → IsInRange s lane → LaneSteps s k blocks lane es new_blocks new → AllByRecursion IsLine es × IsInRange s new
-steps_in_range s k [] blocks lane new_blocks new numbered range h = (tt, subst (IsInRange s) (sym h.1) range)
-steps_in_range s k (e ∷ es) blocks lane new_blocks new numbered range h =
-    let one = step_in_range s e blocks lane h.0 h.1 (subst (IsNumbered s) (sym h.2) numbered) range h.3 in
-    let others = steps_in_range s k es h.0 h.1 new_blocks new numbered one.1 h.4 in
-    ((one.0, others.0), others.1)
+-- an event keeps the number of lanes
+one_lanes : (s : Script) (w : World) (e : Line) (v : World) → One s w e v → length v.lanes ≡ length w.lanes
+one_lanes s w e v h = ap (λ (u : World). length u.lanes) h.after ∙ length-set w.lanes (lane_number e - 1) h.lane
 
--- the events of a lane in range are lines, and leave it in range
-pub lines_in_range : (s : Script) (k : ℕ) (es : List Line) (blocks : List (List ℕ)) (lane : Lane) (new_blocks : List (List ℕ)) (new : Lane) →
-    IsHead s.head → 1 ≤ k → k ≤ 8 → IsSet (set_of s.head k) → All (IsAct (set_of s.head k).pages) (acts_of k s.acts) → length (acts_of k s.acts) ≤ 65536 →
-    IsInRange s lane → LaneSteps s k blocks lane es new_blocks new → AllByRecursion IsLine es × IsInRange s new
-lines_in_range s k es blocks lane new_blocks new head low high set_fits acts_fit few range steps =
-    steps_in_range s k es blocks lane new_blocks new (record { head = head; lane = (low, high); set_fits = set_fits; acts_fit = acts_fit; few = few }) range steps
+-- an event of a lane of the script is a line, and leaves all lanes in range
+one_is_line : (s : Script) (w : World) (e : Line) (v : World) → IsScript s → length w.lanes ≡ s.head.lanes → AreInRange s w.lanes → One s w e v → IsLine e × AreInRange s v.lanes
+one_is_line s w e v script count range h =
+    let k = lane_number e in
+    let there : k ≤ s.head.lanes = omega (arith, h.there.1, count) in
+    let numbered : IsNumbered s k = record {
+      head = script.head;
+      lane = (h.there.0, omega (arith, there, script.head.lanes.1));
+      set_fits = set_fits s.head k script.head h.there.0 there;
+      acts_fit = All-from_recursion (IsAct (set_of s.head k).pages) (acts_of k s.acts) (acts_fit s.head k s.acts script.acts);
+      few = omega (arith, acts_few k s.acts, script.few);
+    } in
+    let lanes : All (IsInRange s) w.lanes = All-from_recursion (IsInRange s) w.lanes range in
+    let within : k - 1 < length w.lanes = omega (arith, h.there.0, h.there.1) in
+    let own : IsInRange s (lane_of w k) = All-get_or (IsInRange s) w.lanes (k - 1) (new_lane 0) within lanes in
+    let one = step_in_range s e w.blocks (lane_of w k) h.blocks h.lane numbered own h.step in
+    (one.0, subst (λ (u : World). AreInRange s u.lanes) (sym h.after) (recursion_from_All (IsInRange s) (slice_set w.lanes (k - 1) h.lane) (All-set (IsInRange s) w.lanes (k - 1) h.lane one.1 lanes)))
+
+-- events of lanes in range are lines, and leave them in range
+pub steps_are_lines : (s : Script) (w : World) (events : List Line) (v : World) → IsScript s → length w.lanes ≡ s.head.lanes → AreInRange s w.lanes → Steps s w events v →
+    AllByRecursion IsLine events × AreInRange s v.lanes × (length v.lanes ≡ s.head.lanes)
+steps_are_lines s w [] v script count range h =
+    (tt, subst (λ (u : World). AreInRange s u.lanes) (sym h) range, ap (λ (u : World). length u.lanes) h ∙ count)
+steps_are_lines s w (e ∷ events) v script count range h =
+    let one = one_is_line s w e h.0 script count range h.1 in
+    let others = steps_are_lines s h.0 events v script (one_lanes s w e h.0 h.1 ∙ count) one.1 h.2 in
+    ((one.0, others.0), others.1, others.2)
+
+-- so are the events of turns
+pub turns_are_lines : (s : Script) (n : ℕ) (w : World) (turns : List (List Line)) (v : World) → IsScript s → length w.lanes ≡ s.head.lanes → AreInRange s w.lanes → Turns s n w turns v →
+    AllByRecursion IsLine (events_in turns) × AreInRange s v.lanes × (length v.lanes ≡ s.head.lanes)
+turns_are_lines s n w turns v script count range h = steps_are_lines s w (events_in turns) v script count range (turns_steps s n w turns v h)

@@ -1,11 +1,7 @@
-pub mod Written
-pub mod Side
-pub mod Goes
+pub mod LaneParts
+pub mod Lanes
 pub mod Range
-pub mod Rest
 pub mod Run
-pub mod State
-pub mod Leads
-pub mod Takes
-pub mod Work
+pub mod Side
 pub mod Shelves
+pub mod Work

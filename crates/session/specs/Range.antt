@@ -1,4 +1,5 @@
-use Rattle.std.specs.Prelude.{ℕ, ◌+◌, ◌^◌, ◌<◌, ◌≤◌, All, IfSome}
+use Rattle.std.specs.Prelude.{ℕ, ◌+◌, ◌^◌, ◌<◌, ◌≤◌, List, All, IfSome}
+use Rattle.std.specs.List.{AllByRecursion}
 use Rattle.nvm_values.specs.declared.sqe.Sqe.{Sqe}
 use Rattle.nvm_model.specs.declared.command.Command.{Command}
 use Rattle.nvm_model.specs.declared.command.Completion.{Completion}
@@ -30,3 +31,7 @@ pub record IsInRange (s : Script) (lane : Lane) : Type 0 where
   pub entries : All IsEntry lane.submitted
   pub running : All (IsCommandOf s.head.blocks) lane.running
   pub posted : All IsCompletion lane.posted
+
+-- the same of every lane
+abbrev pub AreInRange : Script → List Lane → Type 0
+AreInRange s lanes = AllByRecursion (IsInRange s) lanes

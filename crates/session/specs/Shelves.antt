@@ -1,6 +1,6 @@
-use Rattle.std.specs.Prelude.{◌≡◌, ℕ, ◌+◌, ◌≤◌, [], All, length, slice_index_or}
+use Rattle.std.specs.Prelude.{◌≡◌, ℕ, ◌≤◌, All, length}
 use Rattle.nvm_model.specs.declared.script.Head.{Head}
-use Rattle.nvm_blocks.specs.Namespace.{NamespaceState, block_count, entries_of, rooms_of}
+use Rattle.nvm_blocks.specs.Namespace.{NamespaceState, block_count, rooms_of}
 
 -- The namespace that a run is over.
 
@@ -9,10 +9,6 @@ pub record IsNamespaceOf {M : Type 0} (head : Head) (n : NamespaceState M) : Typ
   pub shelf : n.shelf ≡ head.shelf
   pub blocks : block_count n ≡ head.blocks
   pub rooms : All (λ (room : ℕ). 64 ≤ room) (rooms_of n)
-
--- each shelf has room for so many entries more
-abbrev pub HasRoomFor : {M : Type 0} → ℕ → NamespaceState M → Type 0
-HasRoomFor {M} more n = (i : ℕ) → length (slice_index_or (entries_of n) i []) + more ≤ 64
 
 -- as many shelves as before, with the same room
 pub record SameShelves {M : Type 0} (n new : NamespaceState M) : Type 0 where

@@ -1,17 +1,18 @@
 // The cutover of a suspended move: while nothing runs, every block and every window page goes to the destination.
-ghost use Rattle.std.specs.Prelude.{◌≡◌, ◌+◌, ◌<◌, ◌≤◌, ◌++◌, ◌∷◌, [], true, false, IfOk, OnErr, OnOk, length, map};
+ghost use Rattle.std.specs.Prelude.{◌≡◌, ◌+◌, ◌<◌, ◌≤◌, ◌++◌, ◌∷◌, [], IfOk, OnErr, OnOk, length, map};
 ghost use Rattle.mig_base.specs.Count.{HasCause, NeverFall, RiseBy};
 ghost use Rattle.mig_base.specs.Stream.{IsCut, with_more};
 ghost use Rattle.nvm_model.specs.Text.{text_of};
 ghost use Rattle.guest_ram.specs.Ram.{shape};
 ghost use Rattle.session.specs.Run.{HasMoved, HasStoppedMoving, ending_lines};
-ghost use Rattle.session.specs.Side.{AreCopied, CopiesBlock, HasMemory, IfMoved, OneRose};
-ghost use Rattle.session.specs.State.{IsLaneOf};
+ghost use Rattle.session.specs.Side.{AreCopied, CopiesBlock, IfMoved, OneRose};
+ghost use Rattle.session.specs.Lanes.{HaveWindows};
+ghost use Rattle.nvm_model.specs.ScriptText.{IsHead};
 ghost use Rattle.nvm_blocks.specs.Namespace.{block_count, media_of, told_of};
 ghost use Rattle.session.specs.Shelves.{IsNamespaceOf, SameShelves};
 
+use crate::Ending;
 use crate::lines::write_lines;
-use crate::{Ending, LaneScript};
 use guest_ram::Ram;
 use mig_base::{Failed, Sink};
 use mig_medium::Medium;
@@ -19,14 +20,13 @@ use nvm_blocks::Namespace;
 use nvm_model::{Line, Script};
 use transcript::LineBuf;
 
-/// Suspends the guest and moves it: everything is copied, or the migration is given up where a medium failed.
+/// Suspends the guests and moves them: everything is copied, or the migration is given up where a medium failed.
 ///
 /// # Errors
 ///
 /// `Failed` only where the sink's count of faults rose.
 pub(crate) fn migrate<K: Sink, M: Medium>(
     script: &Script,
-    ls: &LaneScript,
     from_ram: &Ram,
     from: &mut Namespace<M>,
     to_ram: &mut Ram,
@@ -34,22 +34,22 @@ pub(crate) fn migrate<K: Sink, M: Medium>(
     buf: &mut LineBuf,
     output: &mut K,
 ) -> Result<Ending, Failed>
-    requires lane { IsLaneOf script.now ls.now }
-    requires from_memory { HasMemory ls.now from_ram.now }
-    requires to_memory { HasMemory ls.now to_ram.old }
+    requires head { IsHead script.now.head }
+    requires from_memory { HaveWindows script.now from_ram.now }
+    requires to_memory { HaveWindows script.now to_ram.old }
     requires from_namespace { IsNamespaceOf script.now.head from.old }
     requires to_namespace { IsNamespaceOf script.now.head to.old }
 
-    ensures moved { IfOk result (λ ending. HasMoved true script.now ls.now.lane ending (map M.faults (media_of from.old)) (map M.faults (media_of to.old)) (K.bytes output.old)
+    ensures moved { IfOk result (λ ending. HasMoved script.now ending (map M.faults (media_of from.old)) (map M.faults (media_of to.old)) (K.bytes output.old)
         (map M.faults (media_of from.new)) (map M.faults (media_of to.new)) (K.bytes output.new)) }
-    ensures stopped { OnErr result (HasStoppedMoving script.now ls.now.lane (map M.faults (media_of from.old)) (map M.faults (media_of to.old)) (K.bytes output.old)
+    ensures stopped { OnErr result (HasStoppedMoving script.now (AreCopied script.now.head.blocks (told_of M.blocks from.old) (told_of M.blocks to.old) (told_of M.blocks to.new)) (map M.faults (media_of from.old)) (map M.faults (media_of to.old)) (K.bytes output.old)
         (map M.faults (media_of from.new)) (map M.faults (media_of to.new)) (K.bytes output.new)) }
     ensures blocks { IfOk result (λ ending. IfMoved ending (AreCopied script.now.head.blocks (told_of M.blocks from.old) (told_of M.blocks to.old) (told_of M.blocks to.new))) }
     ensures memory { IfOk result (λ ending. IfMoved ending (to_ram.new ≡ from_ram.now)) }
     ensures same_blocks { told_of M.blocks from.new ≡ told_of M.blocks from.old }
     ensures from_namespace { SameShelves from.old from.new }
     ensures to_namespace { SameShelves to.old to.new }
-    ensures to_memory { HasMemory ls.now to_ram.new }
+    ensures to_memory { HaveWindows script.now to_ram.new }
     ensures later { (NeverFall (map M.faults (media_of from.old)) (map M.faults (media_of from.new))) × (NeverFall (map M.faults (media_of to.old)) (map M.faults (media_of to.new))) }
     ensures cause { HasCause (K.faults output.old) (K.faults output.new) result }
 {

@@ -16,7 +16,7 @@ pub struct LaneScript {
 impl LaneScript {
     ghost use Rattle.std.specs.Prelude.{◌≡◌, ◌≤◌, IfOk};
     ghost use Rattle.nvm_model.specs.ScriptText.{IsScript};
-    ghost use Rattle.session.specs.State.{IsLaneOf};
+    ghost use Rattle.session.specs.Lanes.{IsLaneOf};
 
     /// Gathers what the script says of a lane that it has.
     ///

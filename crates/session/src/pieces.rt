@@ -1,190 +1,160 @@
-// The pieces of a turn: every command's, in the order of their fetches.
-ghost use Rattle.std.specs.Prelude.{◌≡◌, ℕ, ◌+◌, ◌*◌, ◌<◌, ◌≤◌, All, Some, length, map, take, drop, slice_get, slice_index_or, slice_set, vec_len, vec_capacity};
-ghost use Rattle.std.specs.VecDeque.{deque_capacity};
-ghost use Rattle.nvm_model.specs.declared.command.Command.{Command};
+// The pieces of a turn on one thread.
+ghost use Rattle.std.specs.Prelude.{◌≡◌, ◌+◌, ◌-◌, ◌*◌, ◌/◌, ◌<◌, ◌≤◌, ℕ, List, [], All, IsTrue, length, map, slice_index_or, sum, vec_len, vec_capacity};
+ghost use Rattle.mig_base.specs.Count.{NeverFall, RiseBy};
+ghost use Rattle.nvm_values.specs.declared.op.Op.TheVariants.{Flush};
 ghost use Rattle.nvm_model.specs.declared.line.Line.TheVariants as line;
-ghost use Rattle.nvm_model.specs.Piece.{piece_count, pieces_left, after_piece};
+ghost use Rattle.nvm_model.specs.declared.piece.Piece.{Piece as ThePiece};
+ghost use Rattle.nvm_model.specs.History.{is_faulted};
 ghost use Rattle.nvm_model.specs.ScriptText.{IsHead};
 ghost use Rattle.nvm_model.specs.World.{Lane};
-ghost use Rattle.nvm_blocks.specs.Namespace.{media_of, told_of};
-ghost use Rattle.session.specs.Goes.{Goes};
-ghost use Rattle.session.specs.Leads.{with_work};
-ghost use Rattle.session.specs.Shelves.{HasRoomFor, IsNamespaceOf, SameShelves};
-ghost use Rattle.session.specs.Side.{IsSameButData};
-ghost use Rattle.session.specs.State.{no_command, IsLaneOf, IsFetched, IsWork, IsSameButRunning};
-ghost use Rattle.session.specs.Work.{digest_told, work_at};
+ghost use Rattle.nvm_blocks.specs.Namespace.{IsSameButDone, block_count, entries_of, media_of, rooms_of, told_of};
+ghost use Rattle.nvm_blocks.specs.Work.{HasPages, HasToldEffect, IsSameButData};
+ghost use Rattle.guest_ram.specs.Window.{data_pages};
+ghost use Rattle.hall.specs.Plan.{pieces_of};
+ghost use Rattle.session.specs.declared.lane_run.LaneRun.{LaneRun};
+ghost use Rattle.session.specs.Lanes.{AreFinished, ArePlanned, HasWords, HaveWindows, IsSession, StandsFor, WorksTo};
+ghost use Rattle.session.specs.Shelves.{IsNamespaceOf, SameShelves};
+ghost use Rattle.session.specs.Work.{AreLeft, HasResult, IsSamePlan, WorksOne, digest_told};
 
-use crate::{LaneScript, QueuePair};
+use crate::{LaneRun, Session};
+use controller::Controller;
 use guest_ram::Window;
 use mig_medium::Medium;
-use nvm_blocks::{Namespace, Piece, PieceResult};
-use nvm_cmd::{Job, join_status, piece, piece_count};
-use nvm_model::{Command, Line, Script, Work};
+use nvm_blocks::Namespace;
+use nvm_model::{Line, Piece, PieceResult, Script};
 use nvm_values::Op;
-use std::collections::VecDeque;
 
-/// Does the pieces of every command.
+/// Does the pieces of all lanes, each lane's in its order: lane after lane, or mixed by the script's stream of words.
 pub(crate) fn do_pieces<M: Medium>(
     script: &Script,
-    ls: &LaneScript,
-    window: &mut Window,
-    pair: &mut QueuePair,
+    session: &mut Session,
+    windows: &mut [Window],
     namespace: &mut Namespace<M>,
-    events: &mut Vec<Line>,
 )
     requires head { IsHead script.now.head }
-    requires lane { IsLaneOf script.now ls.now }
-    requires window { (window.old.lane ≡ ls.now.lane) × (length window.old.pages ≡ ls.now.set.pages + 2) }
-    requires fetched { All (IsFetched script.now.head.blocks ls.now.set.pages) pair.old.running.items }
+    requires session { IsSession script.now session.old }
+    requires planned { ArePlanned script.now session.old }
+    requires none { (k : ℕ) (d : LaneRun) → 1 ≤ k → k ≤ script.now.head.lanes → (slice_index_or session.old.lanes.items (k - 1) d).results.items ≡ [] }
+    requires windows { HaveWindows script.now windows.old }
     requires namespace { IsNamespaceOf script.now.head namespace.old }
-    requires room { vec_len events.old + 64 * length pair.old.running.items ≤ vec_capacity events.old }
+    requires room { vec_len session.old.events + 4096 * script.now.head.lanes ≤ vec_capacity session.old.events }
 
-    ensures goes { (lane : Lane) → Goes script.now ls.now.lane
-        (told_of M.blocks namespace.old) (map M.faults (media_of namespace.old)) (with_work window.old pair.old lane) events.old.items
-        (told_of M.blocks namespace.new) (map M.faults (media_of namespace.new)) (with_work window.new pair.new lane) events.new.items }
-    ensures window { IsSameButData window.old window.new }
-    ensures pair { IsSameButRunning pair.old pair.new }
-    ensures finished { All (λ (c : Command). pieces_left script.now.head.shelf c ≡ 0) pair.new.running.items }
+    ensures works { (n : ℕ) (lanes : List Lane) → HasWords script.now n session.old.order → StandsFor script.now session.old windows.old lanes
+        → WorksTo script.now n (told_of M.blocks namespace.old) (map M.faults (media_of namespace.old)) lanes
+        (told_of M.blocks namespace.new) (map M.faults (media_of namespace.new)) session.new windows.new session.old.events.items session.new.events.items }
+    ensures finished { (lanes : List Lane) → StandsFor script.now session.new windows.new lanes → AreFinished script.now lanes }
+    ensures session { IsSession script.now session.new }
+    ensures planned { ArePlanned script.now session.new }
+    ensures done { (k : ℕ) (d : LaneRun) → 1 ≤ k → k ≤ script.now.head.lanes → length (slice_index_or session.new.lanes.items (k - 1) d).results.items ≡ length (pieces_of session.new.plan k) }
+    ensures windows { HaveWindows script.now windows.new }
     ensures namespace { SameShelves namespace.old namespace.new }
-    ensures count { (vec_len events.old ≤ vec_len events.new) × (vec_len events.new ≤ vec_len events.old + 64 * length pair.old.running.items) }
-    ensures capacity { vec_capacity events.new ≡ vec_capacity events.old }
+    ensures count { (vec_len session.old.events ≤ vec_len session.new.events) × (vec_len session.new.events ≤ vec_len session.old.events + 4096 * script.now.head.lanes) }
 {
-    for place in 0..pair.running.len() {
-        do_command(script, ls, place, window, pair, namespace, events);
+    let mut counts = [0; 8];
+    let left = &mut counts[..usize::from(script.head.lanes)];
+    count_left(script, session, left);
+    do_left(script, session, left, windows, namespace);
+}
+
+/// Counts the pieces of each lane, none of which is done.
+fn count_left(script: &Script, session: &Session, left: &mut [usize])
+    requires session { IsSession script.now session.now }
+    requires planned { ArePlanned script.now session.now }
+    requires few { script.now.head.lanes ≤ 8 }
+    requires none { (k : ℕ) (d : LaneRun) → 1 ≤ k → k ≤ script.now.head.lanes → (slice_index_or session.now.lanes.items (k - 1) d).results.items ≡ [] }
+    requires count { length left.old ≡ script.now.head.lanes }
+    ensures left { AreLeft script.now session.now left.new }
+{
+    for (place, run) in session.lanes.iter().enumerate() {
+        left[place] = session.plan.pieces(run.script.lane).len();
     }
 }
 
-/// Does the pieces of the command at a place, if it has any.
-fn do_command<M: Medium>(
+/// Does the pieces that are left, so many of each lane.
+fn do_left<M: Medium>(
     script: &Script,
-    ls: &LaneScript,
-    place: usize,
-    window: &mut Window,
-    pair: &mut QueuePair,
+    session: &mut Session,
+    left: &mut [usize],
+    windows: &mut [Window],
     namespace: &mut Namespace<M>,
-    events: &mut Vec<Line>,
 )
     requires head { IsHead script.now.head }
-    requires lane { IsLaneOf script.now ls.now }
-    requires window { (window.old.lane ≡ ls.now.lane) × (length window.old.pages ≡ ls.now.set.pages + 2) }
-    requires there { place < length pair.old.running.items }
-    requires earlier { All (λ (c : Command). pieces_left script.now.head.shelf c ≡ 0) (take place pair.old.running.items) }
+    requires session { IsSession script.now session.old }
+    requires planned { ArePlanned script.now session.old }
+    requires left { AreLeft script.now session.old left.old }
+    requires windows { HaveWindows script.now windows.old }
     requires namespace { IsNamespaceOf script.now.head namespace.old }
-    requires room { vec_len events.old + 64 ≤ vec_capacity events.old }
-    requires fetched { IsFetched script.now.head.blocks ls.now.set.pages (slice_index_or pair.old.running.items place no_command) }
+    requires room { vec_len session.old.events + sum left.old ≤ vec_capacity session.old.events }
 
-    ensures goes { (lane : Lane) → Goes script.now ls.now.lane
-        (told_of M.blocks namespace.old) (map M.faults (media_of namespace.old)) (with_work window.old pair.old lane) events.old.items
-        (told_of M.blocks namespace.new) (map M.faults (media_of namespace.new)) (with_work window.new pair.new lane) events.new.items }
-    ensures window { IsSameButData window.old window.new }
-    ensures pair { IsSameButRunning pair.old pair.new }
-    ensures finished { All (λ (c : Command). pieces_left script.now.head.shelf c ≡ 0) (take (place + 1) pair.new.running.items) }
-    ensures others { drop (place + 1) pair.new.running.items ≡ drop (place + 1) pair.old.running.items }
+    ensures works { (n : ℕ) (lanes : List Lane) → HasWords script.now n session.old.order → StandsFor script.now session.old windows.old lanes
+        → WorksTo script.now n (told_of M.blocks namespace.old) (map M.faults (media_of namespace.old)) lanes
+        (told_of M.blocks namespace.new) (map M.faults (media_of namespace.new)) session.new windows.new session.old.events.items session.new.events.items }
+    ensures left { AreLeft script.now session.new left.new }
+    ensures none { All (λ (n : ℕ). n ≡ 0) left.new }
+    ensures session { IsSession script.now session.new }
+    ensures planned { ArePlanned script.now session.new }
+    ensures windows { HaveWindows script.now windows.new }
     ensures namespace { SameShelves namespace.old namespace.new }
-    ensures count { (vec_len events.old ≤ vec_len events.new) × (vec_len events.new ≤ vec_len events.old + 64) }
-    ensures capacity { vec_capacity events.new ≡ vec_capacity events.old }
+    ensures count { vec_len session.new.events ≡ vec_len session.old.events + sum left.old }
 {
-    namespace.clear();
-    let command = command_at(&pair.running, place);
-    match command.work {
-        None => {}
-        Some(work) => do_work(script, ls, place, work, window, pair, namespace, events),
+    'pieces: while let Some(place) = session.order.pick(left) {
+        do_piece(script, session, place, windows, namespace);
+        left[place] -= 1;
     }
 }
 
-/// Does the pieces of the command at a place, of which none is done.
-fn do_work<M: Medium>(
-    script: &Script,
-    ls: &LaneScript,
-    place: usize,
-    work: Work,
-    window: &mut Window,
-    pair: &mut QueuePair,
-    namespace: &mut Namespace<M>,
-    events: &mut Vec<Line>,
-)
-    requires head { IsHead script.now.head }
-    requires lane { IsLaneOf script.now ls.now }
-    requires window { (window.old.lane ≡ ls.now.lane) × (length window.old.pages ≡ ls.now.set.pages + 2) }
-    requires there { place < length pair.old.running.items }
-    requires earlier { All (λ (c : Command). pieces_left script.now.head.shelf c ≡ 0) (take place pair.old.running.items) }
-    requires namespace { IsNamespaceOf script.now.head namespace.old }
-    requires empty { HasRoomFor 64 namespace.old }
-    requires room { vec_len events.old + 64 ≤ vec_capacity events.old }
-    requires has_work { (slice_index_or pair.old.running.items place no_command).work ≡ Some work }
-    requires work { IsWork script.now.head.blocks ls.now.set.pages work }
-
-    ensures goes { (lane : Lane) → Goes script.now ls.now.lane
-        (told_of M.blocks namespace.old) (map M.faults (media_of namespace.old)) (with_work window.old pair.old lane) events.old.items
-        (told_of M.blocks namespace.new) (map M.faults (media_of namespace.new)) (with_work window.new pair.new lane) events.new.items }
-    ensures window { IsSameButData window.old window.new }
-    ensures pair { IsSameButRunning pair.old pair.new }
-    ensures finished { All (λ (c : Command). pieces_left script.now.head.shelf c ≡ 0) (take (place + 1) pair.new.running.items) }
-    ensures others { drop (place + 1) pair.new.running.items ≡ drop (place + 1) pair.old.running.items }
-    ensures namespace { SameShelves namespace.old namespace.new }
-    ensures count { (vec_len events.old ≤ vec_len events.new) × (vec_len events.new ≤ vec_len events.old + 64) }
-    ensures capacity { vec_capacity events.new ≡ vec_capacity events.old }
-{
-    let cid = command_at(&pair.running, place).cid;
-    let job = Job {
-        op: work.op,
-        cid,
-        span: work.span,
-        pages: work.pages,
-    };
-    for i in 0..piece_count(&job, script.head.shelf) {
-        do_piece(script, ls, place, &job, i, window, pair, namespace, events);
-    }
-}
-
-/// Does piece `i` of the command at a place, of which the pieces before it are done.
+/// Does the next piece of the lane at a place, which has one left.
 fn do_piece<M: Medium>(
     script: &Script,
-    ls: &LaneScript,
+    session: &mut Session,
     place: usize,
-    job: &Job,
-    i: u32,
-    window: &mut Window,
-    pair: &mut QueuePair,
+    windows: &mut [Window],
     namespace: &mut Namespace<M>,
-    events: &mut Vec<Line>,
 )
     requires head { IsHead script.now.head }
-    requires lane { IsLaneOf script.now ls.now }
-    requires window { (window.old.lane ≡ ls.now.lane) × (length window.old.pages ≡ ls.now.set.pages + 2) }
-    requires there { place < length pair.old.running.items }
-    requires earlier { All (λ (c : Command). pieces_left script.now.head.shelf c ≡ 0) (take place pair.old.running.items) }
+    requires session { IsSession script.now session.old }
+    requires planned { ArePlanned script.now session.old }
+    requires windows { HaveWindows script.now windows.old }
     requires namespace { IsNamespaceOf script.now.head namespace.old }
-    requires entries { HasRoomFor 1 namespace.old }
-    requires room { vec_len events.old < vec_capacity events.old }
-    requires has_work { (slice_index_or pair.old.running.items place no_command).work ≡ Some (work_at job.now i) }
-    requires cid { (slice_index_or pair.old.running.items place no_command).cid ≡ job.now.cid }
-    requires work { IsWork script.now.head.blocks ls.now.set.pages (work_at job.now 0) }
-    requires left { i < piece_count script.now.head.shelf job.now.span }
+    requires there { place < script.now.head.lanes }
+    requires left { (d : LaneRun) → length (slice_index_or session.old.lanes.items place d).results.items < length (pieces_of session.old.plan (place + 1)) }
+    requires room { vec_len session.old.events < vec_capacity session.old.events }
 
-    ensures goes { (lane : Lane) → Goes script.now ls.now.lane
-        (told_of M.blocks namespace.old) (map M.faults (media_of namespace.old)) (with_work window.old pair.old lane) events.old.items
-        (told_of M.blocks namespace.new) (map M.faults (media_of namespace.new)) (with_work window.new pair.new lane) events.new.items }
-    ensures window { IsSameButData window.old window.new }
-    ensures pair { IsSameButRunning pair.old pair.new }
-    ensures has_work { (slice_index_or pair.new.running.items place no_command).work ≡ Some (work_at job.now (i + 1)) }
-    ensures cid { (slice_index_or pair.new.running.items place no_command).cid ≡ job.now.cid }
-    ensures earlier { take place pair.new.running.items ≡ take place pair.old.running.items }
-    ensures others { drop (place + 1) pair.new.running.items ≡ drop (place + 1) pair.old.running.items }
+    ensures works { (lanes : List Lane) → StandsFor script.now session.old windows.old lanes
+        → WorksOne script.now (place + 1) (told_of M.blocks namespace.old) (map M.faults (media_of namespace.old)) lanes
+        (told_of M.blocks namespace.new) (map M.faults (media_of namespace.new)) session.new windows.new session.old.events.items session.new.events.items }
+    ensures done { (d : LaneRun) → length (slice_index_or session.new.lanes.items place d).results.items ≡ length (slice_index_or session.old.lanes.items place d).results.items + 1 }
+    ensures others { (i : ℕ) (d : LaneRun) → (i ≡ place → ⊥) → slice_index_or session.new.lanes.items i d ≡ slice_index_or session.old.lanes.items i d }
+    ensures session { IsSession script.now session.new }
+    ensures same { IsSamePlan session.old session.new }
+    ensures windows { HaveWindows script.now windows.new }
     ensures namespace { SameShelves namespace.old namespace.new }
-    ensures entries { (n : ℕ) → HasRoomFor (n + 1) namespace.old → HasRoomFor n namespace.new }
-    ensures count { vec_len events.new ≡ vec_len events.old + 1 }
-    ensures capacity { vec_capacity events.new ≡ vec_capacity events.old }
+    ensures count { vec_len session.new.events ≡ vec_len session.old.events + 1 }
 {
-    let part = piece(job, ls.lane, script.head.shelf, i);
-    let done = namespace.apply(&part, i, 0, window);
-    let command = command_at(&pair.running, place);
-    events.push_reserved(piece_line(&part, &done));
-    put_at(
-        &mut pair.running,
-        place,
-        after_piece(&command, job, i, &done),
-    );
+    namespace.clear();
+    let (piece, index) = next_piece(session, place);
+    let window = &mut windows[place];
+    let done = session
+        .controller
+        .serve_serial(&piece, index, 0, namespace, window);
+    session.events.push_reserved(piece_line(&piece, &done));
+    push_result(&mut session.lanes, place, done);
+}
+
+/// The next piece of the lane at a place, which has one left, and its place among the lane's.
+fn next_piece(session: &Session, place: usize) -> (Piece, u32)
+    requires there { place < length session.now.lanes.items }
+    requires lane { (d : LaneRun) → (slice_index_or session.now.lanes.items place d).script.lane ≡ place + 1 }
+    requires planned { place < length session.now.plan.lanes }
+    requires few { length (pieces_of session.now.plan (place + 1)) ≤ 4096 }
+    requires left { (d : LaneRun) → length (slice_index_or session.now.lanes.items place d).results.items < length (pieces_of session.now.plan (place + 1)) }
+    ensures index { (d : LaneRun) → result.1 ≡ length (slice_index_or session.now.lanes.items place d).results.items }
+    ensures piece { (d : LaneRun) (none : ThePiece) → result.0 ≡ slice_index_or (pieces_of session.now.plan (place + 1)) (length (slice_index_or session.now.lanes.items place d).results.items) none }
+{
+    let run = &session.lanes[place];
+    let index = run.results.len();
+    let pieces = session.plan.pieces(run.script.lane);
+    (pieces[index], index as u32)
 }
 
 /// The line of a piece that was done. A Read's has its digest.
@@ -205,35 +175,13 @@ fn piece_line(part: &Piece, done: &PieceResult) -> Line
     }
 }
 
-pub(crate) fn command_at(commands: &VecDeque<Command>, place: usize) -> Command
-    requires { place < length commands.now.items }
-    ensures at { slice_get commands.now.items place ≡ Some result }
-    ensures value { result ≡ slice_index_or commands.now.items place no_command }
+/// Puts a result behind those of the lane at a place, which has room for it.
+fn push_result(lanes: &mut Vec<LaneRun>, place: usize, done: PieceResult)
+    requires there { place < length lanes.old.items }
+    requires room { (d : LaneRun) → vec_len (slice_index_or lanes.old.items place d).results < vec_capacity (slice_index_or lanes.old.items place d).results }
+    ensures here { (d : LaneRun) → HasResult (slice_index_or lanes.old.items place d) done (slice_index_or lanes.new.items place d) }
+    ensures others { (i : ℕ) (d : LaneRun) → (i ≡ place → ⊥) → slice_index_or lanes.new.items i d ≡ slice_index_or lanes.old.items i d }
+    ensures count { length lanes.new.items ≡ length lanes.old.items }
 {
-    commands[place]
-}
-
-fn put_at(commands: &mut VecDeque<Command>, place: usize, command: Command)
-    requires { place < length commands.old.items }
-    ensures items { commands.new.items ≡ slice_set commands.old.items place command }
-    ensures capacity { deque_capacity commands.new ≡ deque_capacity commands.old }
-{
-    commands[place] = command;
-}
-
-/// A command after its piece `i`.
-fn after_piece(command: &Command, job: &Job, i: u32, done: &PieceResult) -> Command
-    requires { i < 65536 }
-    ensures { result ≡ after_piece command.now (work_at job.now i) done.now.outcome }
-{
-    Command {
-        cid: command.cid,
-        status: join_status(command.status, job.op, done),
-        work: Some(Work {
-            op: job.op,
-            span: job.span,
-            pages: job.pages,
-            done: i + 1,
-        }),
-    }
+    lanes[place].results.push_reserved(done);
 }

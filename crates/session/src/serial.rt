@@ -1,20 +1,23 @@
-// A whole run: turns until the lane is complete, with at most one move between two turns, between the first lines and
-// the last.
-ghost use Rattle.std.specs.Prelude.{◌≡◌, ◌+◌, ◌<◌, ◌≤◌, ◌∷◌, [], true, false, Some, None, OnErr, OnOk, IfOk, length, map, replicate, vec_capacity};
+// A whole run on one thread: turns until all lanes are complete, with at most one move between two turns, between the
+// first lines and the last.
+ghost use Rattle.std.specs.Prelude.{◌≡◌, ◌<◌, ◌≤◌, ◌∷◌, [], ℕ, List, Some, None, OnErr, OnOk, IfOk, map, take};
 ghost use Rattle.mig_base.specs.Count.{HasCause};
-ghost use Rattle.nvm_model.specs.Memory.{zero_page};
-ghost use Rattle.nvm_model.specs.ScriptText.{IsHead};
-ghost use Rattle.nvm_model.specs.World.{new_lane};
-ghost use Rattle.session.specs.Run.{Turns, HasRun, HasStopped, IfTold, framed, unframed};
-ghost use Rattle.session.specs.Side.{HasMemory, window_of};
-ghost use Rattle.session.specs.State.{CanStand, Stands, IsLaneOf, IsNewPair, IsPairComplete, pair_work};
+ghost use Rattle.mig_base.specs.Stream.{IsCut, with_more};
+ghost use Rattle.nvm_model.specs.ScriptText.{IsScript};
+ghost use Rattle.nvm_model.specs.Text.{text_of};
+ghost use Rattle.nvm_model.specs.World.{Lane};
 ghost use Rattle.nvm_blocks.specs.Namespace.{media_of, told_of};
+ghost use Rattle.guest_ram.specs.Ram.{windows_made};
+ghost use Rattle.guest_ram.specs.Window.{WindowState};
+ghost use Rattle.session.specs.Lanes.{CanStand, HasWords, HaveWindows, IsBetween, IsNewSession, IsSession, StandsFor, start_lanes};
+ghost use Rattle.session.specs.Run.{BrokenBefore, BrokenTo, HasRun, HasStopped, IfTold, IsCompleteSession, TurnedBefore, TurnedTo, TurnsTo, session_work};
+ghost use Rattle.session.specs.Run.{HasRunBody, HasStoppedBody};
 ghost use Rattle.session.specs.Shelves.{IsNamespaceOf, SameShelves};
 
 use crate::cutover::migrate;
 use crate::lines::{write_line, write_lines};
 use crate::turn::{is_complete, turn};
-use crate::{Ending, LaneScript, QueuePair};
+use crate::{Ending, Session};
 use guest_ram::Ram;
 use mig_base::{Failed, Sink};
 use mig_medium::Medium;
@@ -22,41 +25,37 @@ use nvm_blocks::Namespace;
 use nvm_model::{Line, Script};
 use transcript::LineBuf;
 
-/// Runs the script's one lane, from `ready` to `end`, on one thread: over the source, and after a migration over the
-/// destination. Each side is a host's guest memory and its namespace.
+/// Runs a script, from `ready` to `end`, on one thread: over the source, and after a migration over the destination. Each
+/// side is a host's guest memory and its namespace.
 ///
 /// # Errors
 ///
 /// `Failed` only where the sink's count of faults rose.
 pub fn run<K: Sink, M: Medium>(
     script: &Script,
-    ls: &LaneScript,
-    pair: &mut QueuePair,
-    events: &mut Vec<Line>,
+    session: &mut Session,
     from_ram: &mut Ram,
     from: &mut Namespace<M>,
     to_ram: &mut Ram,
     to: &mut Namespace<M>,
     output: &mut K,
 ) -> Result<Ending, Failed>
-    requires head { IsHead script.now.head }
-    requires lane { IsLaneOf script.now ls.now }
-    requires new { IsNewPair ls.now script.now.head.burst pair.old }
-    requires zeroed { (window_of from_ram.old).pages ≡ replicate (ls.now.set.pages + 2) zero_page }
-    requires from_memory { HasMemory ls.now from_ram.old }
-    requires to_memory { HasMemory ls.now to_ram.old }
+    requires script { IsScript script.now }
+    requires session { IsSession script.now session.old }
+    requires new { IsNewSession script.now session.old }
+    requires zeroed { from_ram.old ≡ windows_made 1 (map (λ set. set.pages) (take script.now.head.lanes script.now.head.sets)) }
+    requires to_memory { HaveWindows script.now to_ram.old }
     requires from_namespace { IsNamespaceOf script.now.head from.old }
     requires to_namespace { IsNamespaceOf script.now.head to.old }
-    requires room { 4608 ≤ vec_capacity events.old }
 
-    ensures run { IfOk result (λ ending. IfTold (told_of M.blocks from.old) (told_of M.blocks to.old) (HasRun framed script.now ls.now.lane
-        (new_lane ls.now.set.pages) ending (map M.faults (media_of from.old)) (map M.faults (media_of to.old)) (K.bytes output.old)
-        (told_of M.blocks from.new) (window_of from_ram.new).pages (told_of M.blocks to.new) (window_of to_ram.new).pages (map M.faults (media_of from.new)) (map M.faults (media_of to.new)) (K.bytes output.new))) }
-    ensures stopped { OnErr result (IfTold (told_of M.blocks from.old) (told_of M.blocks to.old) (HasStopped framed script.now ls.now.lane
-        (new_lane ls.now.set.pages) (map M.faults (media_of from.old)) (map M.faults (media_of to.old)) (K.bytes output.old)
+    ensures run { IfOk result (λ ending. IfTold (told_of M.blocks from.old) (told_of M.blocks to.old) (HasRun script.now
+        ending (map M.faults (media_of from.old)) (map M.faults (media_of to.old)) (K.bytes output.old)
+        (told_of M.blocks from.new) (map (λ (w : WindowState). w.pages) from_ram.new) (told_of M.blocks to.new) (map (λ (w : WindowState). w.pages) to_ram.new)
         (map M.faults (media_of from.new)) (map M.faults (media_of to.new)) (K.bytes output.new))) }
-    ensures from_memory { HasMemory ls.now from_ram.new }
-    ensures to_memory { HasMemory ls.now to_ram.new }
+    ensures stopped { OnErr result (IfTold (told_of M.blocks from.old) (told_of M.blocks to.old) (HasStopped script.now
+        (map M.faults (media_of from.old)) (map M.faults (media_of to.old)) (K.bytes output.old)
+        (told_of M.blocks to.old) (told_of M.blocks from.new) (told_of M.blocks to.new)
+        (map M.faults (media_of from.new)) (map M.faults (media_of to.new)) (K.bytes output.new))) }
     ensures cause { HasCause (K.faults output.old) (K.faults output.new) result }
 {
     let mut buf = LineBuf::new();
@@ -65,7 +64,7 @@ pub fn run<K: Sink, M: Medium>(
         Err(Failed) => return Err(Failed),
     }
     let ending = match run_body(
-        script, ls, pair, events, from_ram, from, to_ram, to, &mut buf, output,
+        script, session, from_ram, from, to_ram, to, &mut buf, output,
     ) {
         Ok(ending) => ending,
         Err(Failed) => return Err(Failed),
@@ -79,9 +78,7 @@ pub fn run<K: Sink, M: Medium>(
 /// Runs what stands between the first two lines and the last.
 fn run_body<K: Sink, M: Medium>(
     script: &Script,
-    ls: &LaneScript,
-    pair: &mut QueuePair,
-    events: &mut Vec<Line>,
+    session: &mut Session,
     from_ram: &mut Ram,
     from: &mut Namespace<M>,
     to_ram: &mut Ram,
@@ -89,45 +86,43 @@ fn run_body<K: Sink, M: Medium>(
     buf: &mut LineBuf,
     output: &mut K,
 ) -> Result<Ending, Failed>
-    requires head { IsHead script.now.head }
-    requires lane { IsLaneOf script.now ls.now }
-    requires start { Stands ls.now script.now.head.burst (window_of from_ram.old) pair.old (new_lane ls.now.set.pages) }
-    requires none { pair.old.running.items ≡ [] }
-    requires from_memory { HasMemory ls.now from_ram.old }
-    requires to_memory { HasMemory ls.now to_ram.old }
+    requires script { IsScript script.now }
+    requires session { IsSession script.now session.old }
+    requires between { IsBetween script.now session.old }
+    requires start { StandsFor script.now session.old from_ram.old (start_lanes script.now) }
+    requires words { HasWords script.now 0 session.old.order }
+    requires from_memory { HaveWindows script.now from_ram.old }
+    requires to_memory { HaveWindows script.now to_ram.old }
     requires from_namespace { IsNamespaceOf script.now.head from.old }
     requires to_namespace { IsNamespaceOf script.now.head to.old }
-    requires room { 4608 ≤ vec_capacity events.old }
 
-    ensures run { IfOk result (λ ending. IfTold (told_of M.blocks from.old) (told_of M.blocks to.old) (HasRun unframed script.now ls.now.lane
-        (new_lane ls.now.set.pages) ending (map M.faults (media_of from.old)) (map M.faults (media_of to.old)) (K.bytes output.old)
-        (told_of M.blocks from.new) (window_of from_ram.new).pages (told_of M.blocks to.new) (window_of to_ram.new).pages (map M.faults (media_of from.new)) (map M.faults (media_of to.new)) (K.bytes output.new))) }
-    ensures stopped { OnErr result (IfTold (told_of M.blocks from.old) (told_of M.blocks to.old) (HasStopped unframed script.now ls.now.lane
-        (new_lane ls.now.set.pages) (map M.faults (media_of from.old)) (map M.faults (media_of to.old)) (K.bytes output.old)
+    ensures run { IfOk result (λ ending. IfTold (told_of M.blocks from.old) (told_of M.blocks to.old) (HasRunBody script.now
+        ending (map M.faults (media_of from.old)) (map M.faults (media_of to.old)) (K.bytes output.old)
+        (told_of M.blocks from.new) (map (λ (w : WindowState). w.pages) from_ram.new) (told_of M.blocks to.new) (map (λ (w : WindowState). w.pages) to_ram.new)
         (map M.faults (media_of from.new)) (map M.faults (media_of to.new)) (K.bytes output.new))) }
-    ensures from_memory { HasMemory ls.now from_ram.new }
-    ensures to_memory { HasMemory ls.now to_ram.new }
+    ensures stopped { OnErr result (IfTold (told_of M.blocks from.old) (told_of M.blocks to.old) (HasStoppedBody script.now
+        (map M.faults (media_of from.old)) (map M.faults (media_of to.old)) (K.bytes output.old)
+        (told_of M.blocks from.new) (told_of M.blocks to.new)
+        (map M.faults (media_of from.new)) (map M.faults (media_of to.new)) (K.bytes output.new))) }
     ensures cause { HasCause (K.faults output.old) (K.faults output.new) result }
 {
     match script.head.migrate {
-        None => match run_turns(script, ls, pair, events, from_ram, from, buf, output) {
+        None => match run_turns(script, session, from_ram, from, buf, output) {
             Ok(()) => Ok(Ending::Done),
             Err(Failed) => Err(Failed),
         },
         Some(turn) => run_moving(
-            script, ls, turn, pair, events, from_ram, from, to_ram, to, buf, output,
+            script, session, turn, from_ram, from, to_ram, to, buf, output,
         ),
     }
 }
 
-/// Runs a script that asks for a migration: turns over the source, the move before the turn with this number, or where
-/// the lane is complete, and turns over the side that goes on.
+/// Runs a script that asks for a migration: turns over the source, the move before the turn with this number, or where all
+/// lanes are complete, and turns over the side that goes on.
 fn run_moving<K: Sink, M: Medium>(
     script: &Script,
-    ls: &LaneScript,
+    session: &mut Session,
     turn: u32,
-    pair: &mut QueuePair,
-    events: &mut Vec<Line>,
     from_ram: &mut Ram,
     from: &mut Namespace<M>,
     to_ram: &mut Ram,
@@ -136,85 +131,84 @@ fn run_moving<K: Sink, M: Medium>(
     output: &mut K,
 ) -> Result<Ending, Failed>
     requires asked { script.now.head.migrate ≡ Some turn }
-    requires head { IsHead script.now.head }
-    requires lane { IsLaneOf script.now ls.now }
-    requires start { Stands ls.now script.now.head.burst (window_of from_ram.old) pair.old (new_lane ls.now.set.pages) }
-    requires none { pair.old.running.items ≡ [] }
-    requires from_memory { HasMemory ls.now from_ram.old }
-    requires to_memory { HasMemory ls.now to_ram.old }
+    requires script { IsScript script.now }
+    requires session { IsSession script.now session.old }
+    requires between { IsBetween script.now session.old }
+    requires start { StandsFor script.now session.old from_ram.old (start_lanes script.now) }
+    requires words { HasWords script.now 0 session.old.order }
+    requires from_memory { HaveWindows script.now from_ram.old }
+    requires to_memory { HaveWindows script.now to_ram.old }
     requires from_namespace { IsNamespaceOf script.now.head from.old }
     requires to_namespace { IsNamespaceOf script.now.head to.old }
-    requires room { 4608 ≤ vec_capacity events.old }
 
-    ensures run { IfOk result (λ ending. IfTold (told_of M.blocks from.old) (told_of M.blocks to.old) (HasRun unframed script.now ls.now.lane
-        (new_lane ls.now.set.pages) ending (map M.faults (media_of from.old)) (map M.faults (media_of to.old)) (K.bytes output.old)
-        (told_of M.blocks from.new) (window_of from_ram.new).pages (told_of M.blocks to.new) (window_of to_ram.new).pages (map M.faults (media_of from.new)) (map M.faults (media_of to.new)) (K.bytes output.new))) }
-    ensures stopped { OnErr result (IfTold (told_of M.blocks from.old) (told_of M.blocks to.old) (HasStopped unframed script.now ls.now.lane
-        (new_lane ls.now.set.pages) (map M.faults (media_of from.old)) (map M.faults (media_of to.old)) (K.bytes output.old)
+    ensures run { IfOk result (λ ending. IfTold (told_of M.blocks from.old) (told_of M.blocks to.old) (HasRunBody script.now
+        ending (map M.faults (media_of from.old)) (map M.faults (media_of to.old)) (K.bytes output.old)
+        (told_of M.blocks from.new) (map (λ (w : WindowState). w.pages) from_ram.new) (told_of M.blocks to.new) (map (λ (w : WindowState). w.pages) to_ram.new)
         (map M.faults (media_of from.new)) (map M.faults (media_of to.new)) (K.bytes output.new))) }
-    ensures from_memory { HasMemory ls.now from_ram.new }
-    ensures to_memory { HasMemory ls.now to_ram.new }
+    ensures stopped { OnErr result (IfTold (told_of M.blocks from.old) (told_of M.blocks to.old) (HasStoppedBody script.now
+        (map M.faults (media_of from.old)) (map M.faults (media_of to.old)) (K.bytes output.old)
+        (told_of M.blocks from.new) (told_of M.blocks to.new)
+        (map M.faults (media_of from.new)) (map M.faults (media_of to.new)) (K.bytes output.new))) }
     ensures cause { HasCause (K.faults output.old) (K.faults output.new) result }
 {
-    match run_turns_before(script, ls, turn, pair, events, from_ram, from, buf, output) {
+    match run_turns_before(script, session, turn, from_ram, from, buf, output) {
         Ok(()) => {}
         Err(Failed) => return Err(Failed),
     }
-    let ending = match migrate(script, ls, from_ram, from, to_ram, to, buf, output) {
+    let moved = migrate(script, from_ram, from, to_ram, to, buf, output);
+    prove!(from.len() == to.len());
+    let ending = match moved {
         Ok(ending) => ending,
         Err(Failed) => return Err(Failed),
     };
-    prove!(from.len() == to.len());
     match ending {
-        Ending::Done => match run_turns(script, ls, pair, events, to_ram, to, buf, output) {
+        Ending::Done => match run_turns(script, session, to_ram, to, buf, output) {
             Ok(()) => Ok(Ending::Done),
             Err(Failed) => Err(Failed),
         },
-        Ending::GaveUp => match run_turns(script, ls, pair, events, from_ram, from, buf, output) {
+        Ending::GaveUp => match run_turns(script, session, from_ram, from, buf, output) {
             Ok(()) => Ok(Ending::GaveUp),
             Err(Failed) => Err(Failed),
         },
     }
 }
 
-/// Runs turns until the lane is complete, or until the turn before the one with this number was done.
+/// Runs turns until all lanes are complete, or until the turn before the one with this number was done.
 fn run_turns_before<K: Sink, M: Medium>(
     script: &Script,
-    ls: &LaneScript,
+    session: &mut Session,
     turn: u32,
-    pair: &mut QueuePair,
-    events: &mut Vec<Line>,
     ram: &mut Ram,
     namespace: &mut Namespace<M>,
     buf: &mut LineBuf,
     output: &mut K,
 ) -> Result<(), Failed>
-    requires head { IsHead script.now.head }
-    requires lane { IsLaneOf script.now ls.now }
-    requires stands { CanStand ls.now script.now.head.burst (window_of ram.old) pair.old }
-    requires none { pair.old.running.items ≡ [] }
-    requires memory { HasMemory ls.now ram.old }
+    requires first { 1 ≤ turn }
+    requires script { IsScript script.now }
+    requires session { IsSession script.now session.old }
+    requires between { IsBetween script.now session.old }
+    requires stands { CanStand script.now session.old ram.old }
+    requires memory { HaveWindows script.now ram.old }
     requires namespace { IsNamespaceOf script.now.head namespace.old }
-    requires room { 4608 ≤ vec_capacity events.old }
 
-    ensures turned { OnOk result (Turns true script.now ls.now
-        (told_of M.blocks namespace.old) (map M.faults (media_of namespace.old)) (window_of ram.old) pair.old (K.bytes output.old)
-        (told_of M.blocks namespace.new) (map M.faults (media_of namespace.new)) (window_of ram.new) pair.new (K.bytes output.new)) }
-    ensures stopped { OnErr result (Turns false script.now ls.now
-        (told_of M.blocks namespace.old) (map M.faults (media_of namespace.old)) (window_of ram.old) pair.old (K.bytes output.old)
-        (told_of M.blocks namespace.new) (map M.faults (media_of namespace.new)) (window_of ram.new) pair.new (K.bytes output.new)) }
-    ensures stands { CanStand ls.now script.now.head.burst (window_of ram.new) pair.new }
-    ensures none { pair.new.running.items ≡ [] }
-    ensures memory { HasMemory ls.now ram.new }
+    ensures turned { OnOk result ((n : ℕ) (lanes : List Lane) → HasWords script.now n session.old.order → StandsFor script.now session.old ram.old lanes
+        → TurnedBefore script.now turn n (told_of M.blocks namespace.old) (map M.faults (media_of namespace.old)) lanes (K.bytes output.old)
+        (told_of M.blocks namespace.new) (map M.faults (media_of namespace.new)) session.new ram.new (K.bytes output.new)) }
+    ensures broken { OnErr result ((n : ℕ) (lanes : List Lane) → HasWords script.now n session.old.order → StandsFor script.now session.old ram.old lanes
+        → BrokenBefore script.now turn n (told_of M.blocks namespace.old) (map M.faults (media_of namespace.old)) lanes (K.bytes output.old)
+        (told_of M.blocks namespace.new) (map M.faults (media_of namespace.new)) session.new ram.new (K.bytes output.new)) }
+    ensures session { IsSession script.now session.new }
+    ensures between { IsBetween script.now session.new }
+    ensures stands { CanStand script.now session.new ram.new }
+    ensures memory { HaveWindows script.now ram.new }
     ensures namespace { SameShelves namespace.old namespace.new }
-    ensures capacity { vec_capacity events.new ≡ vec_capacity events.old }
     ensures cause { HasCause (K.faults output.old) (K.faults output.new) result }
 {
-    for _done in 1..turn {
-        if is_complete(ls, pair) {
+    for done in 1..turn {
+        if is_complete(script, session) {
             return Ok(());
         }
-        match run_turn(script, ls, pair, events, ram, namespace, buf, output) {
+        match run_turn(script, session, ram, namespace, buf, output) {
             Ok(()) => {}
             Err(Failed) => return Err(Failed),
         }
@@ -222,41 +216,38 @@ fn run_turns_before<K: Sink, M: Medium>(
     Ok(())
 }
 
-/// Runs turns until the lane is complete.
+/// Runs turns until all lanes are complete.
 fn run_turns<K: Sink, M: Medium>(
     script: &Script,
-    ls: &LaneScript,
-    pair: &mut QueuePair,
-    events: &mut Vec<Line>,
+    session: &mut Session,
     ram: &mut Ram,
     namespace: &mut Namespace<M>,
     buf: &mut LineBuf,
     output: &mut K,
 ) -> Result<(), Failed>
-    requires head { IsHead script.now.head }
-    requires lane { IsLaneOf script.now ls.now }
-    requires stands { CanStand ls.now script.now.head.burst (window_of ram.old) pair.old }
-    requires none { pair.old.running.items ≡ [] }
-    requires memory { HasMemory ls.now ram.old }
+    requires script { IsScript script.now }
+    requires session { IsSession script.now session.old }
+    requires between { IsBetween script.now session.old }
+    requires stands { CanStand script.now session.old ram.old }
+    requires memory { HaveWindows script.now ram.old }
     requires namespace { IsNamespaceOf script.now.head namespace.old }
-    requires room { 4608 ≤ vec_capacity events.old }
 
-    ensures turned { OnOk result (Turns true script.now ls.now
-        (told_of M.blocks namespace.old) (map M.faults (media_of namespace.old)) (window_of ram.old) pair.old (K.bytes output.old)
-        (told_of M.blocks namespace.new) (map M.faults (media_of namespace.new)) (window_of ram.new) pair.new (K.bytes output.new)) }
-    ensures stopped { OnErr result (Turns false script.now ls.now
-        (told_of M.blocks namespace.old) (map M.faults (media_of namespace.old)) (window_of ram.old) pair.old (K.bytes output.old)
-        (told_of M.blocks namespace.new) (map M.faults (media_of namespace.new)) (window_of ram.new) pair.new (K.bytes output.new)) }
-    ensures stands { CanStand ls.now script.now.head.burst (window_of ram.new) pair.new }
-    ensures none { pair.new.running.items ≡ [] }
-    ensures memory { HasMemory ls.now ram.new }
+    ensures turned { OnOk result ((n : ℕ) (lanes : List Lane) → HasWords script.now n session.old.order → StandsFor script.now session.old ram.old lanes
+        → TurnedTo script.now n (told_of M.blocks namespace.old) (map M.faults (media_of namespace.old)) lanes (K.bytes output.old)
+        (told_of M.blocks namespace.new) (map M.faults (media_of namespace.new)) session.new ram.new (K.bytes output.new)) }
+    ensures broken { OnErr result ((n : ℕ) (lanes : List Lane) → HasWords script.now n session.old.order → StandsFor script.now session.old ram.old lanes
+        → BrokenTo script.now n (told_of M.blocks namespace.old) (map M.faults (media_of namespace.old)) lanes (K.bytes output.old)
+        (told_of M.blocks namespace.new) (map M.faults (media_of namespace.new)) session.new ram.new (K.bytes output.new)) }
+    ensures complete { OnOk result (IsCompleteSession script.now session.new) }
+    ensures session { IsSession script.now session.new }
+    ensures between { IsBetween script.now session.new }
+    ensures stands { CanStand script.now session.new ram.new }
+    ensures memory { HaveWindows script.now ram.new }
     ensures namespace { SameShelves namespace.old namespace.new }
-    ensures complete { OnOk result (IsPairComplete ls.now pair.new) }
-    ensures capacity { vec_capacity events.new ≡ vec_capacity events.old }
     ensures cause { HasCause (K.faults output.old) (K.faults output.new) result }
 {
-    'turns: while !is_complete(ls, pair) {
-        match run_turn(script, ls, pair, events, ram, namespace, buf, output) {
+    'turns: while !is_complete(script, session) {
+        match run_turn(script, session, ram, namespace, buf, output) {
             Ok(()) => {}
             Err(Failed) => return Err(Failed),
         }
@@ -264,42 +255,39 @@ fn run_turns<K: Sink, M: Medium>(
     Ok(())
 }
 
-/// Does a turn, and writes the lines of its events.
+/// Does a turn of lanes that aren't all complete, and writes the lines of its events.
 fn run_turn<K: Sink, M: Medium>(
     script: &Script,
-    ls: &LaneScript,
-    pair: &mut QueuePair,
-    events: &mut Vec<Line>,
+    session: &mut Session,
     ram: &mut Ram,
     namespace: &mut Namespace<M>,
     buf: &mut LineBuf,
     output: &mut K,
 ) -> Result<(), Failed>
-    requires head { IsHead script.now.head }
-    requires lane { IsLaneOf script.now ls.now }
-    requires stands { CanStand ls.now script.now.head.burst (window_of ram.old) pair.old }
-    requires none { pair.old.running.items ≡ [] }
-    requires memory { HasMemory ls.now ram.old }
+    requires script { IsScript script.now }
+    requires session { IsSession script.now session.old }
+    requires between { IsBetween script.now session.old }
+    requires due { IsCompleteSession script.now session.old → ⊥ }
+    requires stands { CanStand script.now session.old ram.old }
+    requires memory { HaveWindows script.now ram.old }
     requires namespace { IsNamespaceOf script.now.head namespace.old }
-    requires room { 4608 ≤ vec_capacity events.old }
 
-    ensures turned { OnOk result (Turns true script.now ls.now
-        (told_of M.blocks namespace.old) (map M.faults (media_of namespace.old)) (window_of ram.old) pair.old (K.bytes output.old)
-        (told_of M.blocks namespace.new) (map M.faults (media_of namespace.new)) (window_of ram.new) pair.new (K.bytes output.new)) }
-    ensures stopped { OnErr result (Turns false script.now ls.now
-        (told_of M.blocks namespace.old) (map M.faults (media_of namespace.old)) (window_of ram.old) pair.old (K.bytes output.old)
-        (told_of M.blocks namespace.new) (map M.faults (media_of namespace.new)) (window_of ram.new) pair.new (K.bytes output.new)) }
-    ensures stands { CanStand ls.now script.now.head.burst (window_of ram.new) pair.new }
-    ensures none { pair.new.running.items ≡ [] }
-    ensures memory { HasMemory ls.now ram.new }
+    ensures turns { (n : ℕ) (lanes : List Lane) → HasWords script.now n session.old.order → StandsFor script.now session.old ram.old lanes
+        → TurnsTo script.now n (told_of M.blocks namespace.old) (map M.faults (media_of namespace.old)) lanes
+        (told_of M.blocks namespace.new) (map M.faults (media_of namespace.new)) session.new ram.new session.new.events.items }
+    ensures written { OnOk result (K.bytes output.new ≡ with_more (text_of session.new.events.items) (K.bytes output.old)) }
+    ensures cut { OnErr result (IsCut (text_of session.new.events.items) (K.bytes output.old) (K.bytes output.new)) }
+    ensures session { IsSession script.now session.new }
+    ensures between { IsBetween script.now session.new }
+    ensures stands { CanStand script.now session.new ram.new }
+    ensures memory { HaveWindows script.now ram.new }
     ensures namespace { SameShelves namespace.old namespace.new }
-    ensures onward { (IsPairComplete ls.now pair.old → ⊥) → pair_work ls.now pair.new < pair_work ls.now pair.old }
-    ensures capacity { vec_capacity events.new ≡ vec_capacity events.old }
+    ensures onward { session_work session.new < session_work session.old }
     ensures cause { HasCause (K.faults output.old) (K.faults output.new) result }
 {
     let windows = ram.windows();
-    turn(script, ls, &mut windows[0], pair, namespace, events);
-    match write_lines(events, buf, output) {
+    turn(script, session, windows, namespace);
+    match write_lines(&session.events, buf, output) {
         Ok(()) => Ok(()),
         Err(Failed) => Err(Failed),
     }

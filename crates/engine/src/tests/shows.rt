@@ -53,7 +53,7 @@ fn shows_rounds(rt: HostRuntime) -> Result<(), Fail> {
     let left = called_by(&rt, rt.alloc(), &["show"], script.clone()?, SOUND)?;
     assert!(&rt; left.status == Status::Done && left.output.bytes() == SHOWN.as_bytes());
     let left = called(&rt, rt.alloc(), script, TWO_SHELVES)?;
-    let (line, why) = (7, Why::Range);
+    let (line, why) = (13, Why::Range);
     assert!(&rt; left.status == Status::BadScript { line, why } && left.output.bytes().is_empty());
     Ok(())
 }

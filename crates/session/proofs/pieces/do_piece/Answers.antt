@@ -1,88 +1,106 @@
-use Rattle.std.proofs.Common.{◌≡◌, ℕ, ◌+◌, ◌/◌, ◌++◌, ◌<◌, ◌≤◌, IsTrue, [], ◌∷◌, List, length, map, sym, ap, subst, ◌∙◌, arith}
-use Rattle.std.specs.Prelude.{slice_index_or, slice_set}
-use Rattle.std.proofs.lemmas.List.{length-drop}
-use Rattle.mig_base.proofs.CountLemmas.{rise_if}
-use Rattle.nvm_model.specs.declared.command.Command.{Command}
+use Rattle.std.proofs.Common.{◌≡◌, List, ℕ, ◌+◌, ◌-◌, ◌*◌, ◌≤◌, ◌++◌, [], ◌∷◌, get_or, length, map, refl, ap, subst, ◌∙◌, arith}
+use Rattle.std.specs.Prelude.{vec_capacity}
+use Rattle.std.proofs.lemmas.List.{get_or_default, length-drop}
 use Rattle.nvm_model.specs.declared.line.Line.{Line}
-use Rattle.nvm_model.specs.declared.line.Line.TheVariants as line
-use Rattle.nvm_model.specs.declared.piece.Piece.{Piece}
 use Rattle.nvm_model.specs.declared.piece.ShelfEntry.{ShelfEntry}
-use Rattle.nvm_model.specs.History.{is_faulted}
-use Rattle.nvm_values.specs.Op.{moves_data}
-use Rattle.nvm_model.specs.Piece.{page_of}
-use Rattle.guest_ram.specs.Window.{data_pages}
-use Rattle.nvm_blocks.specs.Namespace.{entries_of, media_of, told_of}
-use Rattle.nvm_blocks.specs.Work.{HasPages, HasToldEffect}
-use Rattle.nvm_cmd.specs.Cut.{IsPartOf, piece_of}
-use Rattle.session.specs.Goes.{Goes}
-use Rattle.session.specs.Leads.{with_work}
-use Rattle.session.specs.Work.{digest_told}
-use Rattle.session.proofs.PieceLemmas.{entry_fits, entry_more, part_pages, pieces_few}
-use Rattle.session.proofs.WorkLemmas.{piece_goes}
+use Rattle.nvm_model.specs.World.{set_of}
+use Rattle.nvm_blocks.specs.Namespace.{media_of, told_of}
+use Rattle.nvm_blocks.specs.Work.{HasPages}
+use Rattle.guest_ram.specs.Window.{WindowState, data_pages, no_window}
+use Rattle.session.proofs.PieceLemmas.{entry_fits}
+use Rattle.session.proofs.ShelvesLemmas.{same_namespace}
+use Rattle.session.proofs.WorkLemmas.{element_at, next_at, none_in_empty, part_at, piece_works, pieces_fit, session_after, still_works}
 use Rattle.session.proofs.pieces.do_piece.Goals as goal
 
-pub apply-done-requires-clause-pages : goal.apply-done-requires-clause-pages
-apply-done-requires-clause-pages g c =
-    let k = c.args.ls.now.lane in
-    let shelf = c.args.script.now.head.shelf in
-    let i = c.args.i in
-    let job = c.args.job.now in
-    let count = length (data_pages c.args.window.now) in
-    let pages : count ≡ c.args.ls.now.set.pages = omega (arith, length-drop 2 c.args.window.now.pages, c.requires.window.1) in
-    let part : IsPartOf shelf job.span (piece_of k shelf i job).span =
-    subst (λ (p : Piece). IsPartOf shelf job.span p.span) c.piece-part.ensures.value (c.piece-part.ensures.part c.requires.work.some) in
-    subst (λ (p : Piece). HasPages p count) (sym c.piece-part.ensures.value)
-    (part_pages k shelf i count job part c.requires.work.few c.requires.work.used
-    (subst (λ (n : ℕ). IsTrue (moves_data job.op) → (j : ℕ) → j < job.span.count → page_of job.pages j < n) (sym pages) c.requires.work.there))
+pub next_piece-piece-requires-clause-few : goal.next_piece-piece-requires-clause-few
+next_piece-piece-requires-clause-few g c =
+    omega (arith, c.requires.head.burst.1, pieces_fit c.requires.head.shelf.0 (c.requires.planned (c.args.place + 1) (omega arith) (omega (arith, c.requires.there))))
 
-pub apply-done-requires-clause-room : goal.apply-done-requires-clause-room
-apply-done-requires-clause-room g c =
-    let b = c.piece-part.result.span.first in
-    let part = c.piece-part.ensures.part c.requires.work.some in
-    entry_fits c.args.script.now.head c.args.namespace.now b c.requires.namespace c.requires.head.shelf.0
-    (omega (arith, part.some, part.ends, c.requires.work.within, c.requires.namespace.blocks)) c.requires.entries
+pub serve_serial-done-requires-clause-op : goal.serve_serial-done-requires-clause-op
+serve_serial-done-requires-clause-op g c =
+    (part_at c.args.place c.next_piece-piece.result.0 c.requires.head.shelf.0 c.requires.planned c.requires.there c.requires.session c.requires.left c.next_piece-piece.ensures.piece).op
 
-pub after_piece-requires : goal.after_piece-requires
-after_piece-requires g c =
-    let few = pieces_few c.args.script.now.head.shelf c.args.job.now.span c.requires.head.shelf.0 c.requires.work.some in
-    omega (arith, few, c.requires.left, c.requires.work.few)
+pub serve_serial-done-requires-clause-some : goal.serve_serial-done-requires-clause-some
+serve_serial-done-requires-clause-some g c =
+    (part_at c.args.place c.next_piece-piece.result.0 c.requires.head.shelf.0 c.requires.planned c.requires.there c.requires.session c.requires.left c.next_piece-piece.ensures.piece).some
 
-pub returns-clause-goes : goal.returns-clause-goes
-returns-clause-goes g c = λ base_lane.
+pub serve_serial-done-requires-clause-few : goal.serve_serial-done-requires-clause-few
+serve_serial-done-requires-clause-few g c =
+    (part_at c.args.place c.next_piece-piece.result.0 c.requires.head.shelf.0 c.requires.planned c.requires.there c.requires.session c.requires.left c.next_piece-piece.ensures.piece).few
+
+pub serve_serial-done-requires-clause-within : goal.serve_serial-done-requires-clause-within
+serve_serial-done-requires-clause-within g c =
+    let part = part_at c.args.place c.next_piece-piece.result.0 c.requires.head.shelf.0 c.requires.planned c.requires.there c.requires.session c.requires.left c.next_piece-piece.ensures.piece in
+    let rest = c.clear.ensures.rest in
+    let is = same_namespace c.requires.namespace (record { shelf = rest.shelf; count = rest.count; rooms = rest.rooms }) in
+    omega (arith, part.within, is.blocks)
+
+pub serve_serial-done-requires-clause-one_shelf : goal.serve_serial-done-requires-clause-one_shelf
+serve_serial-done-requires-clause-one_shelf g c =
+    let part = part_at c.args.place c.next_piece-piece.result.0 c.requires.head.shelf.0 c.requires.planned c.requires.there c.requires.session c.requires.left c.next_piece-piece.ensures.piece in
+    let shelf : c.clear.new.self.shelf ≡ c.args.script.now.head.shelf = c.clear.ensures.rest.shelf ∙ c.requires.namespace.shelf in
+    rw shelf part.one_shelf
+
+pub serve_serial-done-requires-clause-pages : goal.serve_serial-done-requires-clause-pages
+serve_serial-done-requires-clause-pages g c =
     let s = c.args.script.now in
-    let k = c.args.ls.now.lane in
     let place = c.args.place in
-    let job = c.args.job.now in
-    let part = piece_of k s.head.shelf c.args.i job in
-    let command = c.command_at-command.result in
-    let done = c.apply-done.result in
-    let told = told_of g.M.Medium.blocks c.args.namespace.now in
-    let faults = map g.M.Medium.faults (media_of c.args.namespace.now) in
-    let lane = with_work c.args.window.now c.args.pair.now base_lane in
-    let new_told = told_of g.M.Medium.blocks c.apply-done.new.self in
-    let new_faults = map g.M.Medium.faults (media_of c.apply-done.new.self) in
-    let memory = data_pages c.apply-done.new.w in
-    let effect : HasToldEffect part part.span.first done told lane.pages new_told memory =
-    subst (λ (p : Piece). HasToldEffect p p.span.first done told lane.pages new_told memory) c.piece-part.ensures.value c.apply-done.ensures.effect in
-    let base = piece_goes s k place c.args.i command job done told faults lane c.args.events.now.items new_told new_faults memory
-    c.command_at-command.ensures.at c.requires.earlier
-    (ap (λ (d : Command). d.work) c.command_at-command.ensures.value ∙ c.requires.has_work)
-    (ap (λ (d : Command). d.cid) c.command_at-command.ensures.value ∙ c.requires.cid)
-    c.requires.left effect (rise_if (is_faulted done.outcome) faults new_faults c.apply-done.ensures.later c.apply-done.ensures.cause) c.apply-done.ensures.later in
-    let event = line.Piece k job.cid part.span.first part.span.count done.outcome (digest_told job.op done.digest) in
-    let told_line : c.piece_line.result ≡ event =
-    c.piece_line.ensures ∙ ap (λ (p : Piece). line.Piece p.lane p.cid p.span.first p.span.count done.outcome (digest_told p.op done.digest)) c.piece-part.ensures.value in
-    let goes = λ (running : List Command) (events : List Line). Goes s k told faults lane c.args.events.now.items new_told new_faults
-    (record lane { pages = memory; running = running }) events in
-    subst (λ (events : List Line). goes c.put_at.new.commands.items events)
-    (sym (c.push_reserved.ensures.items ∙ ap (λ (e : Line). c.args.events.now.items ++ e ∷ []) told_line))
-    (subst (λ (running : List Command). goes running (c.args.events.now.items ++ event ∷ []))
-    (sym (c.put_at.ensures.items ∙ ap (λ (d : Command). slice_set c.args.pair.now.running.items place d) c.after_piece.ensures))
-    base)
+    let part = part_at c.args.place c.next_piece-piece.result.0 c.requires.head.shelf.0 c.requires.planned c.requires.there c.requires.session c.requires.left c.next_piece-piece.ensures.piece in
+    let here : place + 1 - 1 ≡ place = omega arith in
+    let window = get_or c.args.windows.now place c.index-windows-place.result in
+    let there = c.requires.windows.each (place + 1) (omega arith) (omega (arith, c.requires.there)) in
+    let same : get_or c.args.windows.now (place + 1 - 1) no_window ≡ window =
+    ap (λ (i : ℕ). get_or c.args.windows.now i no_window) here ∙ get_or_default c.args.windows.now place no_window c.index-windows-place.result (omega (arith, c.requires.there, c.requires.windows.count)) in
+    let size : length window.pages ≡ (set_of s.head (place + 1)).pages + 2 = subst (λ (w : WindowState). length w.pages ≡ (set_of s.head (place + 1)).pages + 2) same there.size in
+    let pages : (set_of s.head (place + 1)).pages ≡ length (data_pages window) = omega (arith, size, length-drop 2 window.pages) in
+    subst (λ (n : ℕ). HasPages c.next_piece-piece.result.0 n) pages part.has_pages
 
-pub returns-clause-entries : goal.returns-clause-entries
-returns-clause-entries g c = λ n few k.
-    let b = c.piece-part.result.span.first in
-    let entry : ShelfEntry = record { lane = c.piece-part.result.lane; index = c.args.i; ticket = 0; result = c.apply-done.result } in
-    subst (λ (all : List (List ShelfEntry)). length (slice_index_or all k []) + n ≤ 64) (sym c.apply-done.ensures.entry)
-    (entry_more (b / c.args.namespace.now.shelf) entry (entries_of c.args.namespace.now) k n (few k))
+pub serve_serial-done-requires-clause-room : goal.serve_serial-done-requires-clause-room
+serve_serial-done-requires-clause-room g c =
+    let part = part_at c.args.place c.next_piece-piece.result.0 c.requires.head.shelf.0 c.requires.planned c.requires.there c.requires.session c.requires.left c.next_piece-piece.ensures.piece in
+    let rest = c.clear.ensures.rest in
+    let is = same_namespace c.requires.namespace (record { shelf = rest.shelf; count = rest.count; rooms = rest.rooms }) in
+    entry_fits c.args.script.now.head c.clear.new.self c.next_piece-piece.result.0.span.first is c.requires.head.shelf.0 (omega (arith, part.some, part.within, is.blocks))
+    (λ i. rw c.clear.ensures.entries (omega (arith, none_in_empty ShelfEntry (length c.args.namespace.now.shelves) i)))
+
+pub push_result-requires-clause-room : goal.push_result-requires-clause-room
+push_result-requires-clause-room g c = λ d.
+    let place = c.args.place in
+    let here : place + 1 - 1 ≡ place = omega arith in
+    let s = c.args.script.now in
+    let run = get_or c.args.session.now.lanes.items place d in
+    let all = pieces_fit c.requires.head.shelf.0 (c.requires.planned (place + 1) (omega arith) (omega (arith, c.requires.there))) in
+    let own = c.requires.session.runs (place + 1) d (omega arith) (omega (arith, c.requires.there)) in
+    let room : 64 * s.head.burst ≤ vec_capacity run.results = subst (λ (i : ℕ). 64 * s.head.burst ≤ vec_capacity (get_or c.args.session.now.lanes.items i d).results) here own.room in
+    omega (arith, all, c.requires.left d, run.results.ok.0, room)
+
+pub returns-clause-works : goal.returns-clause-works
+returns-clause-works g c = λ lanes stands.
+    let s = c.args.script.now in
+    let session = c.args.session.now in
+    let place = c.args.place in
+    let low = c.requires.there in
+    let d = element_at session.lanes.items place (omega (arith, low, c.requires.session.count)) in
+    let run = get_or session.lanes.items place d in
+    let piece = c.next_piece-piece.result.0 in
+    let done = c.serve_serial-done.result in
+    let window = get_or c.args.windows.now place c.index-windows-place.result in
+    let blocks = g.M.Medium.blocks in
+    let count = g.M.Medium.faults in
+    let new = c.serve_serial-done.new.namespace in
+    still_works blocks count c.clear.new.self c.args.namespace.now c.clear.ensures.media
+    (piece_works place run window piece done c.serve_serial-done.new.w
+    (told_of blocks c.clear.new.self) (map count (media_of c.clear.new.self)) (told_of blocks new) (map count (media_of new)) session.events.items c.push_reserved.new.self.items
+    (◌∙◌ {A = List Line} c.push_reserved.ensures.items (ap {B = List Line} (λ (e : Line). session.events.items ++ e ∷ []) c.piece_line.ensures))
+    low c.requires.windows.count c.serve_serial-done.ensures.same c.push_result.ensures.others c.push_result.ensures.here
+    (λ e. get_or_default session.lanes.items place e d (omega (arith, low, c.requires.session.count)))
+    (get_or_default c.args.windows.now place no_window c.index-windows-place.result (omega (arith, low, c.requires.windows.count)))
+    c.serve_serial-done.ensures.window
+    (next_at place d piece c.requires.planned low (c.requires.left d) (c.next_piece-piece.ensures.piece d piece))
+    c.serve_serial-done.ensures.effect c.serve_serial-done.ensures.later c.serve_serial-done.ensures.cause stands)
+
+pub returns-clause-session : goal.returns-clause-session
+returns-clause-session g c =
+    session_after c.args.place c.serve_serial-done.result c.requires.session
+    (record { controller = c.serve_serial-done.ensures.same; plan = refl; order = refl; capacity = c.push_reserved.ensures.capacity; lanes = c.push_result.ensures.count })
+    c.push_result.ensures.others c.push_result.ensures.here

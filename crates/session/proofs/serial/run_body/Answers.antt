@@ -1,8 +1,10 @@
-use Rattle.nvm_model.specs.World.{new_lane}
+use Rattle.std.proofs.Common.{map}
+use Rattle.guest_ram.specs.Window.{WindowState}
 use Rattle.nvm_blocks.specs.Namespace.{told_of}
-use Rattle.session.specs.Side.{window_of}
-use Rattle.session.proofs.RunLemmas.{between, is_end, fits, stayed, stopped_before}
-use Rattle.session.proofs.StandsLemmas.{whole_window}
+use Rattle.session.specs.Lanes.{start_lanes}
+use Rattle.session.proofs.BetweenLemmas.{complete_is, whole_memory}
+use Rattle.session.proofs.RunLemmas.{stayed}
+use Rattle.session.proofs.StopLemmas.{between, stopped_before}
 use Rattle.session.proofs.ShelvesLemmas.{faults_of}
 use Rattle.session.proofs.serial.run_body.Goals as goal
 
@@ -11,17 +13,14 @@ returns-in-Ok-clause-run g c =
     let told = told_of g.M.Medium.blocks in
     let faults = faults_of g.M.Medium.faults in
     let s = c.args.script.now in
-    let ls = c.args.ls.now in
-    let turned = c.in-Ok.ensures.turned (new_lane ls.set.pages) c.requires.start in
-    stayed (faults c.args.to.now) (told c.args.to.now) (window_of c.args.to_ram.now).pages (told c.args.from.now) (told c.args.to.now) (told c.run_turns.new.namespace)
-    (fits s ls c.requires.head c.requires.lane) c.in-None.is turned.turned (is_end c.requires.lane turned.stands c.in-Ok.ensures.complete) (whole_window s c.requires.lane turned.stands)
+    let turned = c.in-Ok.ensures.turned 0 (start_lanes s) c.requires.words c.requires.start in
+    stayed (faults c.args.to.now) (told c.args.to.now) (map (λ (w : WindowState). w.pages) c.args.to_ram.now) (told c.args.from.now) (told c.args.to.now) (told c.run_turns.new.namespace)
+    c.requires.script c.in-None.is turned.turned (complete_is c.requires.script c.run_turns.ensures.session turned.stands c.in-Ok.ensures.complete) (whole_memory c.requires.script c.run_turns.ensures.session c.run_turns.ensures.memory turned.stands)
 
 pub returns-in-Err-clause-stopped : goal.returns-in-Err-clause-stopped
 returns-in-Err-clause-stopped g c =
     let told = told_of g.M.Medium.blocks in
     let faults = faults_of g.M.Medium.faults in
-    let s = c.args.script.now in
-    let ls = c.args.ls.now in
-    let turned = c.in-Err.ensures.stopped (new_lane ls.set.pages) c.requires.start in
-    stopped_before (faults c.args.to.now) (told c.args.from.now) (told c.args.to.now) (told c.run_turns.new.namespace)
-    (fits s ls c.requires.head c.requires.lane) (between c.requires.lane turned.stands c.run_turns.ensures.none) turned.turned
+    let x = c.in-Err.ensures.broken 0 (start_lanes c.args.script.now) c.requires.words c.requires.start in
+    stopped_before (faults c.args.to.now) (told c.args.to.now) (told c.args.from.now) (told c.args.to.now) (told c.run_turns.new.namespace)
+    c.in-None.is (between c.requires.script c.run_turns.ensures.session c.run_turns.ensures.between x.stands) x.broken tt

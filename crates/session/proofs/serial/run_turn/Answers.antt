@@ -1,67 +1,25 @@
-use Rattle.std.proofs.Common.{ℕ, true, false, List, [], ◌∷◌, length, subst, sym, ap, ◌∙◌}
-use Rattle.nvm_model.specs.declared.line.Line.{Line}
-use Rattle.nvm_model.specs.Text.{text_of}
-use Rattle.guest_ram.specs.Ram.{shape}
+use Rattle.std.proofs.Common.{List, map, subst, sym, ◌∙◌}
+use Rattle.nvm_blocks.specs.Namespace.{media_of, told_of}
 use Rattle.guest_ram.specs.Window.{WindowState}
-use Rattle.nvm_blocks.specs.Namespace.{told_of}
-use Rattle.session.specs.Written.{IsWritten}
-use Rattle.session.specs.Run.{Turns}
-use Rattle.session.specs.Side.{window_of}
-use Rattle.session.specs.State.{CanStand}
-use Rattle.session.proofs.RunLemmas.{same_window, only_window, turn_turns}
-use Rattle.session.proofs.ShelvesLemmas.{faults_of}
+use Rattle.session.specs.Lanes.{StandsFor}
+use Rattle.session.specs.Run.{TurnsTo}
+use Rattle.session.proofs.TurnedLemmas.{given_back}
 use Rattle.session.proofs.serial.run_turn.Goals as goal
 
-pub returns-in-Ok-clause-turned : goal.returns-in-Ok-clause-turned
-returns-in-Ok-clause-turned g c =
+pub returns-in-Ok-clause-turns : goal.returns-in-Ok-clause-turns
+returns-in-Ok-clause-turns g c = λ n lanes words stands.
     let s = c.args.script.now in
-    let ls = c.args.ls.now in
-    let told = told_of g.M.Medium.blocks in
-    let faults = faults_of g.M.Medium.faults in
-    let sink = g.K.Sink in
-    let old = same_window ls c.index-windows-0.result c.args.ram.now c.windows-windows.result.now c.requires.memory c.windows-windows.ensures.value in
-    let wrote = subst (λ (events : List Line). IsWritten true (text_of events) (sink.bytes c.args.output.now) (sink.bytes c.write_lines.new.output)) c.deref.ensures.value c.in-Ok.ensures.written in
-    let turns = λ (window ram_window : WindowState). Turns true s ls (told c.args.namespace.now) (faults c.args.namespace.now) window c.args.pair.now (sink.bytes c.args.output.now)
-    (told c.turn.new.namespace) (faults c.turn.new.namespace) ram_window c.turn.new.pair (sink.bytes c.write_lines.new.output) in
-    subst (λ (ram : List WindowState). turns (window_of c.args.ram.now) (window_of ram)) (sym (only_window ls c.turn.new.window c.args.ram.now c.windows-windows.result.now c.requires.memory c.windows-windows.ensures.value))
-    (subst (λ (w : WindowState). turns w c.turn.new.window) old (turn_turns c.turn.ensures.turns wrote))
+    let medium = g.M.Medium in
+    let turn = c.turn.ensures.turns n lanes words (subst (λ (ws : List WindowState). StandsFor s c.args.session.now ws lanes) (sym c.windows-windows.ensures.value) stands) in
+    subst (λ (ws : List WindowState). TurnsTo s n (told_of medium.blocks c.args.namespace.now) (map medium.faults (media_of c.args.namespace.now)) lanes
+    (told_of medium.blocks c.turn.new.namespace) (map medium.faults (media_of c.turn.new.namespace)) c.turn.new.session ws c.turn.new.session.events.items)
+    (sym (given_back c.args.ram.now c.turn.new.windows (c.turn.ensures.windows.count ∙ sym c.requires.memory.count))) turn
 
-pub returns-in-Ok-clause-stands : goal.returns-in-Ok-clause-stands
-returns-in-Ok-clause-stands g c =
-    let ls = c.args.ls.now in
-    subst (λ (ram : List WindowState). CanStand ls c.args.script.now.head.burst (window_of ram) c.turn.new.pair)
-    (sym (only_window ls c.turn.new.window c.args.ram.now c.windows-windows.result.now c.requires.memory c.windows-windows.ensures.value)) c.turn.ensures.stands
-
-pub returns-in-Ok-clause-memory : goal.returns-in-Ok-clause-memory
-returns-in-Ok-clause-memory g c =
-    let ls = c.args.ls.now in
-    let window = c.turn.ensures.stands.1.window_is in
-    ap shape (only_window ls c.turn.new.window c.args.ram.now c.windows-windows.result.now c.requires.memory c.windows-windows.ensures.value)
-    ∙ ap (λ (k : ℕ). (k, length c.turn.new.window.pages) ∷ []) window.number ∙ ap (λ (n : ℕ). (ls.lane, n) ∷ []) window.size
-
-pub returns-in-Err-clause-stopped : goal.returns-in-Err-clause-stopped
-returns-in-Err-clause-stopped g c =
+pub returns-in-Err-clause-turns : goal.returns-in-Err-clause-turns
+returns-in-Err-clause-turns g c = λ n lanes words stands.
     let s = c.args.script.now in
-    let ls = c.args.ls.now in
-    let told = told_of g.M.Medium.blocks in
-    let faults = faults_of g.M.Medium.faults in
-    let sink = g.K.Sink in
-    let old = same_window ls c.index-windows-0.result c.args.ram.now c.windows-windows.result.now c.requires.memory c.windows-windows.ensures.value in
-    let wrote = subst (λ (events : List Line). IsWritten false (text_of events) (sink.bytes c.args.output.now) (sink.bytes c.write_lines.new.output)) c.deref.ensures.value c.in-Err.ensures.cut in
-    let turns = λ (window ram_window : WindowState). Turns false s ls (told c.args.namespace.now) (faults c.args.namespace.now) window c.args.pair.now (sink.bytes c.args.output.now)
-    (told c.turn.new.namespace) (faults c.turn.new.namespace) ram_window c.turn.new.pair (sink.bytes c.write_lines.new.output) in
-    subst (λ (ram : List WindowState). turns (window_of c.args.ram.now) (window_of ram)) (sym (only_window ls c.turn.new.window c.args.ram.now c.windows-windows.result.now c.requires.memory c.windows-windows.ensures.value))
-    (subst (λ (w : WindowState). turns w c.turn.new.window) old (turn_turns c.turn.ensures.turns wrote))
-
-pub returns-in-Err-clause-stands : goal.returns-in-Err-clause-stands
-returns-in-Err-clause-stands g c =
-    let ls = c.args.ls.now in
-    subst (λ (ram : List WindowState). CanStand ls c.args.script.now.head.burst (window_of ram) c.turn.new.pair)
-    (sym (only_window ls c.turn.new.window c.args.ram.now c.windows-windows.result.now c.requires.memory c.windows-windows.ensures.value)) c.turn.ensures.stands
-
-pub returns-in-Err-clause-memory : goal.returns-in-Err-clause-memory
-returns-in-Err-clause-memory g c =
-    let ls = c.args.ls.now in
-    let window = c.turn.ensures.stands.1.window_is in
-    ap shape (only_window ls c.turn.new.window c.args.ram.now c.windows-windows.result.now c.requires.memory c.windows-windows.ensures.value)
-    ∙ ap (λ (k : ℕ). (k, length c.turn.new.window.pages) ∷ []) window.number ∙ ap (λ (n : ℕ). (ls.lane, n) ∷ []) window.size
+    let medium = g.M.Medium in
+    let turn = c.turn.ensures.turns n lanes words (subst (λ (ws : List WindowState). StandsFor s c.args.session.now ws lanes) (sym c.windows-windows.ensures.value) stands) in
+    subst (λ (ws : List WindowState). TurnsTo s n (told_of medium.blocks c.args.namespace.now) (map medium.faults (media_of c.args.namespace.now)) lanes
+    (told_of medium.blocks c.turn.new.namespace) (map medium.faults (media_of c.turn.new.namespace)) c.turn.new.session ws c.turn.new.session.events.items)
+    (sym (given_back c.args.ram.now c.turn.new.windows (c.turn.ensures.windows.count ∙ sym c.requires.memory.count))) turn

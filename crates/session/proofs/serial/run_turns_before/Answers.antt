@@ -1,39 +1,56 @@
-use Rattle.std.proofs.Common.{arith, rules}
-use Rattle.nvm_blocks.specs.Namespace.{told_of}
-use Rattle.session.proofs.RunLemmas.{turns_none, turns_more}
-use Rattle.session.proofs.ShelvesLemmas.{faults_of, same_more, same_namespace, same_stay}
+use Rattle.std.proofs.Common.{inl, inr, map, refl, arith}
+use Rattle.std.proofs.lemmas.Bool.{false≢true}
+use Rattle.nvm_blocks.specs.Namespace.{media_of, told_of}
+use Rattle.session.proofs.BetweenLemmas.{complete_is}
+use Rattle.session.proofs.ShelvesLemmas.{same_more, same_namespace, same_stay}
+use Rattle.session.proofs.TurnedLemmas.{to_broken, to_more, to_none}
 use Rattle.session.proofs.serial.run_turns_before.Goals as goal
 
 pub loop-done-init : goal.loop-done-init
 loop-done-init g c = record {
-  turned = turns_none (told_of g.M.Medium.blocks c.args.namespace.now) (faults_of g.M.Medium.faults c.args.namespace.now) (g.K.Sink.bytes c.args.output.now);
+  turned = λ n lanes words stands.
+      let none = to_none n (told_of g.M.Medium.blocks c.args.namespace.now) (map g.M.Medium.faults (media_of c.args.namespace.now)) lanes (g.K.Sink.bytes c.args.output.now) words stands in
+      (none.0, omega (arith, none.1));
+  session = c.requires.session;
+  between = c.requires.between;
   stands = c.requires.stands;
-  none = c.requires.none;
   memory = c.requires.memory;
-  same = same_stay c.args.namespace.now;
-  capacity = search rules;
+  namespace = same_stay c.args.namespace.now;
   later = omega arith;
 }
 
 pub loop-done-preserved : goal.loop-done-preserved
 loop-done-preserved g c = record {
-  turned = turns_more c.loop-done.invariant.turned c.in-Ok.ensures.turned;
+  turned = λ n lanes words stands.
+      let before = c.loop-done.invariant.turned n lanes words stands in
+      let more = to_more before.0 c.run_turn.ensures.turns c.in-Ok.ensures.written in
+      (more.0, omega (arith, before.1, more.1));
+  session = c.run_turn.ensures.session;
+  between = c.run_turn.ensures.between;
   stands = c.run_turn.ensures.stands;
-  none = c.run_turn.ensures.none;
   memory = c.run_turn.ensures.memory;
-  same = same_more c.loop-done.invariant.same c.run_turn.ensures.namespace;
-  capacity = search rules;
-  later = omega (arith, c.run_turn.ensures.cause.later);
+  namespace = same_more c.loop-done.invariant.namespace c.run_turn.ensures.namespace;
+  later = omega (arith, c.loop-done.invariant.later, c.run_turn.ensures.cause.later);
 }
 
 pub run_turn-requires-clause-namespace : goal.run_turn-requires-clause-namespace
-run_turn-requires-clause-namespace g c = same_namespace c.requires.namespace c.loop-done.invariant.same
+run_turn-requires-clause-namespace g c = same_namespace c.requires.namespace c.loop-done.invariant.namespace
 
-pub returns-in-Err-clause-stopped : goal.returns-in-Err-clause-stopped
-returns-in-Err-clause-stopped g c = turns_more c.loop-done.invariant.turned c.in-Err.ensures.stopped
+pub run_turn-requires-clause-due : goal.run_turn-requires-clause-due
+run_turn-requires-clause-due g c = λ complete. false≢true (c.if-is_complete.ensures.not complete)
 
-pub returns-in-Err-clause-cause : goal.returns-in-Err-clause-cause
-returns-in-Err-clause-cause g c = record {
-  later = omega (arith, c.loop-done.invariant.later, c.in-Err.ensures.cause.later);
-  failed = λ err. let rose = c.in-Err.ensures.cause.failed err in omega (arith, c.loop-done.invariant.later, rose);
-}
+pub returns-then-is_complete-clause-turned : goal.returns-then-is_complete-clause-turned
+returns-then-is_complete-clause-turned g c = λ n lanes words stands.
+    let before = c.loop-done.invariant.turned n lanes words stands in
+    record { to = before.0; begins = (omega (arith, before.1, c.loop-done-test.true), inr (complete_is c.requires.script c.loop-done.invariant.session before.0.stands (c.if-is_complete.ensures.complete refl))) }
+
+pub returns-in-Err-clause-broken : goal.returns-in-Err-clause-broken
+returns-in-Err-clause-broken g c = λ n lanes words stands.
+    let before = c.loop-done.invariant.turned n lanes words stands in
+    let broken = to_broken before.0 c.run_turn.ensures.turns c.in-Err.ensures.cut in
+    record { to = broken.0; few = omega (arith, before.1, broken.1, c.loop-done-test.true) }
+
+pub returns-clause-turned : goal.returns-clause-turned
+returns-clause-turned g c = λ n lanes words stands.
+    let before = c.loop-done.invariant.turned n lanes words stands in
+    record { to = before.0; begins = (omega (arith, before.1, c.loop-done-test.false), inl (omega (arith, before.1, c.loop-done-test.false))) }

@@ -1,84 +1,50 @@
-use Rattle.std.proofs.Common.{◌≡◌, ℕ, ◌+◌, ◌-◌, ◌*◌, ◌<◌, ◌≤◌, List, ⊎_elim, length, map, vec_len, subst, sym, ap, ◌∙◌}
-use Rattle.std.proofs.lemmas.Bool.{cases_lt}
+use Rattle.std.proofs.Common.{◌+◌, List, subst, sym, arith}
 use Rattle.nvm_model.specs.declared.line.Line.{Line}
-use Rattle.nvm_model.specs.World.{Lane}
-use Rattle.nvm_blocks.specs.Namespace.{media_of, told_of}
-use Rattle.session.specs.Goes.{Goes}
-use Rattle.session.specs.Leads.{with_work}
-use Rattle.session.specs.State.{work_left}
-use Rattle.session.proofs.ChangeLemmas.{work_stands}
-use Rattle.session.proofs.GoesLemmas.{goes_more}
-use Rattle.session.proofs.LeadsLemmas.{as_is, both_ways, no_fewer, no_more, none_waited, some_items, some_later, some_more, waits_unfetched, with_own_work, work_falls}
-use Rattle.session.proofs.StandsLemmas.{all_reaped, all_fetched, pair_work_is}
+use Rattle.nvm_model.specs.Turn.{Plans, pieces_in}
+use Rattle.session.specs.declared.order.Order.{Order}
+use Rattle.session.specs.Lanes.{HasWords, LeadsTo}
+use Rattle.session.proofs.BetweenLemmas.{are_served, at_rest, due_is, work_is}
+use Rattle.turns.proofs.FrameLemmas.{frame_less}
+use Rattle.session.proofs.TurnLemmas.{turn_by_parts}
 use Rattle.session.proofs.turn.turn.Goals as goal
 
-pub post_all-requires-clause-stands : goal.post_all-requires-clause-stands
-post_all-requires-clause-stands g c =
-    let fetched = c.fetch_all.ensures.stands in
-    (with_work c.do_pieces.new.window c.do_pieces.new.pair fetched.0, work_stands fetched.1 c.do_pieces.ensures.window c.do_pieces.ensures.pair)
-
 pub returns-clause-turns : goal.returns-clause-turns
-returns-clause-turns g c = λ lane stands.
+returns-clause-turns g c = λ n lanes words stands.
     let s = c.args.script.now in
-    let k = c.args.ls.now.lane in
-    let told = told_of g.M.Medium.blocks c.args.namespace.now in
-    let faults = map g.M.Medium.faults (media_of c.args.namespace.now) in
-    let new_told = told_of g.M.Medium.blocks c.do_pieces.new.namespace in
-    let new_faults = map g.M.Medium.faults (media_of c.do_pieces.new.namespace) in
-    let reaped = c.reap_all.ensures.leads lane stands in
-    let acted = c.do_acts.ensures.leads reaped.new reaped.stands in
-    let fetched = c.fetch_all.ensures.leads acted.new acted.stands in
-    let worked : Lane = with_work c.do_pieces.new.window c.do_pieces.new.pair fetched.new in
-    let posted = c.post_all.ensures.leads worked (work_stands fetched.stands c.do_pieces.ensures.window c.do_pieces.ensures.pair) in
-    let pieces = subst (λ (l : Lane). Goes s k told faults l c.fetch_all.new.events.items new_told new_faults worked c.do_pieces.new.events.items)
-    (with_own_work fetched.stands) (c.do_pieces.ensures.goes fetched.new) in
-    let parts = goes_more (reaped.goes.each told faults) (goes_more (acted.goes.each told faults)
-    (goes_more (fetched.goes.each told faults) (goes_more pieces (posted.goes.each new_told new_faults)))) in
-    record {
-      new = posted.new;
-      stands = posted.stands;
-      goes = subst (λ (events : List Line). Goes s k told faults lane events new_told new_faults posted.new c.post_all.new.events.items) c.clear.ensures.items parts;
-    }
+    let plan = subst (λ (es : List Line). LeadsTo s (Plans s) lanes c.plan_all.new.session c.plan_all.new.windows es c.plan_all.new.session.events.items) c.clear.ensures.items
+    (c.plan_all.ensures.leads lanes (record { count = stands.count; each = stands.each })) in
+    let works = c.do_pieces.ensures.works n plan.new (subst (λ (o : Order). HasWords s n o) (sym c.plan_all.ensures.order) words) plan.stands in
+    turn_by_parts (record {
+      burst = c.requires.script.head.burst.0;
+      rest = at_rest c.requires.script c.requires.session c.requires.between stands;
+      served = are_served s lanes c.requires.script stands.count;
+      due = due_is c.requires.session stands c.requires.due;
+      plan = plan;
+      works = works;
+      finished = c.do_pieces.ensures.finished works.new works.stands;
+      posts = c.post_all.ensures.leads works.new works.stands;
+      order = c.post_all.ensures.order;
+    })
 
-pub returns-clause-window : goal.returns-clause-window
-returns-clause-window g c =
-    let old = c.requires.stands.1.window_is in
-    let new = c.post_all.ensures.stands.1.window_is in
-    (new.number ∙ sym old.number, new.size ∙ sym old.size)
+pub returns-clause-stands : goal.returns-clause-stands
+returns-clause-stands g c =
+    let can = c.requires.stands in
+    let s = c.args.script.now in
+    let plan = c.plan_all.ensures.leads can.lanes (record { count = can.stands.count; each = can.stands.each }) in
+    let works = c.do_pieces.ensures.works can.drawn plan.new (subst (λ (o : Order). HasWords s can.drawn o) (sym c.plan_all.ensures.order) can.words) plan.stands in
+    let posts = c.post_all.ensures.leads works.new works.stands in
+    record { lanes = posts.new; stands = posts.stands; drawn = can.drawn + pieces_in works.added; words = subst (λ (o : Order). HasWords s (can.drawn + pieces_in works.added) o) (sym c.post_all.ensures.order) works.words }
 
 pub returns-clause-onward : goal.returns-clause-onward
-returns-clause-onward g c = λ incomplete.
-    let ls = c.args.ls.now in
-    let set = c.requires.lane.set_fits in
-    let old = c.args.pair.now in
-    let lane = c.requires.stands.0 in
-    let stands = c.requires.stands.1 in
-    let reaped = c.reap_all.ensures.leads lane stands in
-    let acted = c.do_acts.ensures.leads reaped.new reaped.stands in
-    let fetched = c.fetch_all.ensures.leads acted.new acted.stands in
-    let worked : Lane = with_work c.do_pieces.new.window c.do_pieces.new.pair fetched.new in
-    let posted = c.post_all.ensures.leads worked (work_stands fetched.stands c.do_pieces.ensures.window c.do_pieces.ensures.pair) in
-    let old_work = pair_work_is set stands in
-    let new_work = pair_work_is set posted.stands in
-    let running : length fetched.new.running ≡ length c.fetch_all.new.pair.running.items = ap length fetched.stands.numbers.running in
-    let as_many = c.do_pieces.ensures.pair.running in
-    let none : length c.clear.new.self.items ≡ 0 = ap length c.clear.ensures.items in
-    let some : 0 < vec_len c.fetch_all.new.events = ⊎_elim
-    (λ (some_reaped : 0 < vec_len c.reap_all.new.events). some_later _ _ _ some_reaped c.do_acts.ensures.few.0 c.fetch_all.ensures.count.0)
-    (λ (none_reaped : vec_len c.reap_all.new.events ≤ 0). ⊎_elim
-    (λ (waits : 0 < c.reap_all.new.pair.waiting).
-    let none_running : length reaped.new.running ≡ 0 = ap length (reaped.stands.numbers.running ∙ c.reap_all.ensures.only.1 ∙ c.requires.none) in
-    some_more _ _ _ (c.fetch_all.ensures.some (λ empty. waits_unfetched _ _ _ _ _ _ _ _ (all_reaped set reaped.stands c.reap_all.ensures.none) none_running reaped.stands.numbers.waiting reaped.stands.ordered.posted
-    (all_fetched set acted.stands empty) acted.related.fetched acted.related.submitted waits)) (as_is _))
-    (λ (none_waits : c.reap_all.new.pair.waiting ≤ 0). ⊎_elim
-    (λ (left : old.acts_done < length ls.acts.items).
-    some_more _ _ _ (c.do_acts.ensures.some (no_more _ none_waits) (rw c.reap_all.ensures.only.0 left)) c.fetch_all.ensures.count.0)
-    (λ (none_left : length ls.acts.items ≤ old.acts_done).
-    absurd (incomplete (both_ways _ _ stands.numbers.acts_few none_left, none_waited _ _ _ _ c.reap_all.ensures.count none_reaped none_waits)))
-    (cases_lt old.acts_done (length ls.acts.items)))
-    (cases_lt 0 c.reap_all.new.pair.waiting))
-    (cases_lt 0 (vec_len c.reap_all.new.events)) in
-    let worked_same : work_left ls worked ≡ work_left ls fetched.new =
-    ap (λ (n : ℕ). 4 * (length ls.acts.items - fetched.new.acts) + 2 * (length fetched.new.submitted - fetched.new.fetched) + n + (length fetched.new.submitted - fetched.new.reaped)) (as_many ∙ sym running) in
-    let least = no_fewer c.do_pieces.new.events c.post_all.new.events _ c.post_all.ensures.count in
-    rw (old_work, new_work) (work_falls _ _ _ _ _ _ _ _ _ _ _ _ none reaped.work acted.work fetched.work worked_same posted.work least (some_items c.fetch_all.new.events some))
+returns-clause-onward g c =
+    let can = c.requires.stands in
+    let s = c.args.script.now in
+    let is = c.requires.script in
+    let plan = c.plan_all.ensures.leads can.lanes (record { count = can.stands.count; each = can.stands.each }) in
+    let works = c.do_pieces.ensures.works can.drawn plan.new (subst (λ (o : Order). HasWords s can.drawn o) (sym c.plan_all.ensures.order) can.words) plan.stands in
+    let posts = c.post_all.ensures.leads works.new works.stands in
+    let old = work_is is c.requires.session c.requires.between can.stands in
+    let new = work_is is c.post_all.ensures.session c.post_all.ensures.between posts.stands in
+    let less = frame_less is.head.burst.0 (at_rest is c.requires.session c.requires.between can.stands) (are_served s can.lanes is can.stands.count) (due_is c.requires.session can.stands c.requires.due)
+    (record { planning = plan.parts; kept = works.kept; posting = posts.parts }) in
+    omega (arith, old, new, less)
