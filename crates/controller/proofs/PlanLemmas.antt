@@ -1,7 +1,7 @@
 use Rattle.std.proofs.Common.{◌≡◌, ℕ, suc, ◌+◌, ◌-◌, ◌*◌, ◌/◌, ◌<◌, ◌≤◌, All, List, [], ◌∷◌, ◌++◌, Option, Some, None, length, map, refl, set, sum, sym, ap, ap₂, subst, ◌∙◌, arith}
 use Rattle.std.specs.List.{range_with_len, sum_by}
 use Rattle.std.proofs.lemmas.Grind.{flat_map-append}
-use Rattle.std.proofs.lemmas.List.{append-nil, append_assoc, get_or-set_same, length-append, length-set, set-get_or, set-set}
+use Rattle.std.proofs.lemmas.List.{append-nil, append_assoc, get_or-set_same, length-append, set-get_or, set-set}
 use Rattle.std.proofs.lemmas.List.FromFn.{length-map-range_with_len, map-range_with_len_more}
 use Rattle.std.proofs.Math.Nat.{div-lt_iff_lt-mul, mul-le-mul_left}
 use Rattle.std.proofs.lemmas.List.Sums.{sum_by-cons, sum-map}
@@ -35,9 +35,6 @@ with_more k a b plan one there =
 pub count_with : (k : ℕ) (a : List Piece) (plan : PlanState) → 1 ≤ k → k ≤ length plan.lanes → length (pieces_of (with_pieces k a plan) k) ≡ length (pieces_of plan k) + length a
 count_with k a plan one there =
     ap length (get_or-set_same plan.lanes (k - 1) (pieces_of plan k ++ a) [] (omega arith)) ∙ length-append (pieces_of plan k) a
-
-pub lanes_with : (k : ℕ) (a : List Piece) (plan : PlanState) → length (with_pieces k a plan).lanes ≡ length plan.lanes
-lanes_with k a plan = length-set plan.lanes (k - 1) (pieces_of plan k ++ a)
 
 -- the pieces of one command more
 pub pieces_more : (k shelf : ℕ) (commands : List Command) (command : Command) → lane_pieces k shelf (commands ++ command ∷ []) ≡ lane_pieces k shelf commands ++ command_pieces k shelf command
