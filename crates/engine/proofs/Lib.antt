@@ -1,5 +1,4 @@
 pub mod WordLemmas
-pub mod StatusLemmas
 pub mod ReadLemmas
 pub mod HistoryLemmas
 pub mod SizeLemmas

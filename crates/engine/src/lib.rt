@@ -18,5 +18,3 @@ pub use status::Status;
 pub use top::nvmigrate;
 pub use words::geometry;
 
-#[cfg(test)]
-mod tests;

@@ -1,10 +1,9 @@
-ghost use Rattle.std.specs.Prelude.{◌≡◌, ◌++◌, OnOk, codes, decimal};
-ghost use Rattle.mig_base.specs.Count.{HasCause};
-ghost use Rattle.mig_base.specs.Stream.{with_more};
+ghost use Rattle.std.specs.Prelude.{◌≡◌, ◌≤◌, ◌++◌, [], codes, decimal, length};
+ghost use Rattle.mig_base.specs.Stream.{Writes};
 ghost use Rattle.engine.specs.StatusText.{code_of, why_text, status_text};
 
-use itoa::Buffer;
-use mig_base::{Failed, Sink, send};
+use line_buf::{LineBuf, write_line};
+use mig_base::{Failed, Sink};
 use script::Why;
 
 /// How a call of the program ended.
@@ -47,66 +46,66 @@ impl Status {
         }
     }
 
-    /// Writes the status's text, with a line feed, where it has one.
+    /// Writes the status's text, a line, where it has one.
     ///
     /// # Errors
     ///
-    /// `Failed` only where the sink's count of faults rose.
+    /// `Failed` only where the sink's count of faults rose. A front of the text was written then.
     pub fn write<K: Sink>(&self, sink: &mut K) -> Result<(), Failed>
-        ensures text { OnOk result (K.bytes sink.new ≡ with_more (status_text self.now) (K.bytes sink.old)) }
-        ensures cause { HasCause (K.faults sink.old) (K.faults sink.new) result }
+        ensures { Writes (status_text self.now) (K.bytes sink.old) (K.bytes sink.new) (K.faults sink.old) (K.faults sink.new) result }
+    {
+        let mut line = LineBuf::new();
+        self.push(&mut line);
+        write_line(line.bytes(), sink)
+    }
+
+    /// The status's text behind what the empty line has.
+    fn push(&self, line: &mut LineBuf)
+        requires { line.old ≡ [] }
+        ensures { line.new ≡ status_text self.now }
     {
         match *self {
-            Status::Done => Ok(()),
-            Status::Usage => send(sink, b"usage\n"),
-            Status::BadScript { line, why } => write_bad_script(line, why, sink),
-            Status::TooLong => send(sink, b"too long\n"),
-            Status::OutOfMemory => send(sink, b"out of memory\n"),
-            Status::HostSize { kept, asked } => write_host_size(kept, asked, sink),
-            Status::ReadFault => send(sink, b"read fault\n"),
-            Status::WriteFault => send(sink, b"write fault\n"),
-            Status::GaveUp => send(sink, b"gave up\n"),
+            Status::Done => {}
+            Status::Usage => line.push(b"usage\n"),
+            Status::BadScript { line: number, why } => push_bad_script(number, why, line),
+            Status::TooLong => line.push(b"too long\n"),
+            Status::OutOfMemory => line.push(b"out of memory\n"),
+            Status::HostSize { kept, asked } => push_host_size(kept, asked, line),
+            Status::ReadFault => line.push(b"read fault\n"),
+            Status::WriteFault => line.push(b"write fault\n"),
+            Status::GaveUp => line.push(b"gave up\n"),
         }
     }
 }
 
-fn write_bad_script<K: Sink>(line: u32, why: Why, sink: &mut K) -> Result<(), Failed>
-    ensures text { OnOk result (K.bytes sink.new ≡ with_more (codes "bad script line " ++ decimal line ++ why_text why) (K.bytes sink.old)) }
-    ensures cause { HasCause (K.faults sink.old) (K.faults sink.new) result }
+fn push_bad_script(number: u32, why: Why, line: &mut LineBuf)
+    requires { line.old ≡ [] }
+    ensures { line.new ≡ codes "bad script line " ++ decimal number ++ why_text why }
 {
-    send(sink, b"bad script line ")?;
-    write_number(u64::from(line), sink)?;
-    write_why(why, sink)?;
-    Ok(())
+    line.push(b"bad script line ");
+    line.push_number(number);
+    push_why(why, line);
 }
 
-fn write_why<K: Sink>(why: Why, sink: &mut K) -> Result<(), Failed>
-    ensures text { OnOk result (K.bytes sink.new ≡ with_more (why_text why) (K.bytes sink.old)) }
-    ensures cause { HasCause (K.faults sink.old) (K.faults sink.new) result }
+fn push_why(why: Why, line: &mut LineBuf)
+    requires { length line.old ≤ 64 }
+    ensures { line.new ≡ line.old ++ why_text why }
 {
     match why {
-        Why::Form => send(sink, b": form\n"),
-        Why::Range => send(sink, b": range\n"),
-        Why::Cut => send(sink, b": cut\n"),
-        Why::More => send(sink, b": more\n"),
+        Why::Form => line.push(b": form\n"),
+        Why::Range => line.push(b": range\n"),
+        Why::Cut => line.push(b": cut\n"),
+        Why::More => line.push(b": more\n"),
     }
 }
 
-fn write_host_size<K: Sink>(kept: u64, asked: u64, sink: &mut K) -> Result<(), Failed>
-    ensures text { OnOk result (K.bytes sink.new ≡ with_more (codes "host size: kept " ++ decimal kept ++ codes " asked " ++ decimal asked ++ codes "\n") (K.bytes sink.old)) }
-    ensures cause { HasCause (K.faults sink.old) (K.faults sink.new) result }
+fn push_host_size(kept: u64, asked: u64, line: &mut LineBuf)
+    requires { line.old ≡ [] }
+    ensures { line.new ≡ codes "host size: kept " ++ decimal kept ++ codes " asked " ++ decimal asked ++ codes "\n" }
 {
-    send(sink, b"host size: kept ")?;
-    write_number(kept, sink)?;
-    send(sink, b" asked ")?;
-    write_number(asked, sink)?;
-    send(sink, b"\n")?;
-    Ok(())
-}
-
-fn write_number<K: Sink>(n: u64, sink: &mut K) -> Result<(), Failed>
-    ensures text { OnOk result (K.bytes sink.new ≡ with_more (decimal n) (K.bytes sink.old)) }
-    ensures cause { HasCause (K.faults sink.old) (K.faults sink.new) result }
-{
-    send(sink, Buffer::new().format(n).as_bytes())
+    line.push(b"host size: kept ");
+    line.push_number64(kept);
+    line.push(b" asked ");
+    line.push_number64(asked);
+    line.push(b"\n");
 }

@@ -80,5 +80,3 @@ pub fn parse_front(alloc: Global, text: &[u8]) -> Result<(Script, usize), ParseR
     }
 }
 
-#[cfg(test)]
-mod tests;

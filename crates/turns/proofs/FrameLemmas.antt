@@ -255,7 +255,7 @@ frame_rest rest served frame = let all = frame_leaves rest served frame in (all.
 -- A plan with no event.
 
 -- of no elements, none come first
-no_first : {X : Type 0} (xs ys : List X) → xs ++ ys ≡ [] → xs ≡ []
+pub no_first : {X : Type 0} (xs ys : List X) → xs ++ ys ≡ [] → xs ≡ []
 no_first [] ys none = refl
 no_first (x ∷ xs) ys none = let more : suc (length (xs ++ ys)) ≡ 0 = ap length none in absurd (omega (arith, more))
 

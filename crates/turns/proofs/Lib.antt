@@ -3,3 +3,5 @@ pub mod FrameLemmas
 pub mod OrderLemmas
 pub mod PlanLemmas
 pub mod RestLemmas
+pub mod EventLaws
+pub mod CutLaws

@@ -34,7 +34,7 @@ empty_or_not [] = inl refl
 empty_or_not (x ∷ xs) = inr (λ e. cc)
 
 -- an option has one value
-one_value : {X : Type 0} {o : Option X} {x y : X} → o ≡ Some x → o ≡ Some y → x ≡ y
+pub one_value : {X : Type 0} {o : Option X} {x y : X} → o ≡ Some x → o ≡ Some y → x ≡ y
 one_value is other = cc
 
 -- an option without a value has none

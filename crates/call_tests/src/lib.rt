@@ -1,0 +1,12 @@
+//! Tests over the public calls of crates whose proofs are dear, since a crate with tests is proved twice: what files under
+//! tests/cases can't show, as media, inputs and sinks that fail, traces, and hosts of odd sizes. Nothing stands on it.
+#![tactic(auto)]
+
+#[cfg(test)]
+mod moves;
+#[cfg(test)]
+mod programs;
+#[cfg(test)]
+mod scripts;
+#[cfg(test)]
+mod stops;

@@ -1,0 +1,195 @@
+//! Moves: what either host holds afterwards, and each call of either medium.
+
+use crate::programs::{Given, Left, ONE_SHELF, TWO_SHELVES, block_of, called, joined};
+use engine::Status;
+use guest_ram::Host;
+use mig_medium::{MemMedium, Step};
+use std::alloc::{AllocError, Global};
+use std::test::Fail;
+
+/// A script without acts that moves its guest before the first turn.
+const AT_ONCE: &str = "\
+nvmigrate script 1
+blocks 16
+shelf 16
+lanes 1
+lane 1 sq 2 cq 2 pages 1
+burst 4
+mix 0
+change 4
+slice 4
+small 16
+pages 4
+patience 8
+migrate 1
+end
+";
+
+/// A block is written before the move. After it that block is read and another is written, a turn later, since `idle`
+/// ends a turn's acts; and both are verified.
+const MOVING: &str = "\
+nvmigrate script 1
+blocks 16
+shelf 16
+lanes 1
+lane 1 sq 4 cq 4 pages 2
+burst 4
+mix 0
+change 4
+slice 4
+small 16
+pages 4
+patience 8
+migrate 2
+1 fill 0 5a
+1 submit 1 write 3 1 0 -
+1 wait
+1 submit 2 read 3 1 1 -
+1 idle
+1 submit 3 write 4 1 0 -
+1 wait
+1 submit 4 verify 3 2 - -
+end
+";
+
+/// Two lanes of which one writes another block after the move.
+const MOVING_LANES: &str = "\
+nvmigrate script 1
+blocks 32
+shelf 16
+lanes 2
+lane 1 sq 4 cq 4 pages 1
+lane 2 sq 4 cq 4 pages 2
+burst 4
+mix 7
+change 4
+slice 4
+small 32
+pages 7
+patience 8
+migrate 2
+1 fill 0 11
+1 submit 1 write 14 4 0 -
+1 wait
+1 submit 2 read 14 4 0 -
+2 fill 1 22
+2 submit 1 write 14 4 1 -
+2 idle
+2 submit 2 write 30 1 1 -
+end
+";
+
+/// The events of the first turn of the two lanes, and those of the others.
+const BEFORE_MOVE: &str = "\
+act 1 1
+act 1 2
+fetch 1 1 0 00 2
+act 2 1
+act 2 2
+act 2 3
+fetch 2 1 0 00 2
+piece 2 1 14 2 ok
+piece 1 1 14 2 ok
+piece 1 1 16 2 ok
+piece 2 1 16 2 ok
+post 1 1 0 00
+post 2 1 0 00
+";
+
+const AFTER_MOVE: &str = "\
+reap 1 1 0 00 1 1
+act 1 3
+act 1 4
+fetch 1 2 0 00 2
+reap 2 1 0 00 1 1
+act 2 4
+fetch 2 2 0 00 1
+piece 1 2 14 2 ok 9f36749c5fb3b23ed904ad1582f24a6a65ef3b9e263b1be28af4f792ea269f43
+piece 2 2 30 1 ok
+piece 1 2 16 2 ok 9512a6eeb321fca57e7470e193a589f05b58154719e99568099b1d6133818e5e
+post 1 2 0 00
+post 2 2 0 00
+reap 1 2 0 00 2 1
+reap 2 2 0 00 2 1
+";
+
+/// A destination whose third put fails.
+const THIRD_PUT: &[u64] = &[3];
+
+fn run<R: std::thread::Threads + Sync>(
+    rt: &R,
+    alloc: Global,
+    script: &str,
+    given: Given<'_>,
+) -> Result<Left, Fail> {
+    called(rt, alloc, joined(alloc, &[script])?, given)
+}
+
+/// The transcript with these parts between its first two lines and the last.
+fn transcript(alloc: Global, parts: [&str; 3]) -> Result<Vec<u8>, AllocError> {
+    let [before, lines, after] = parts;
+    let first = "nvmigrate transcript 1\nready\n";
+    joined(alloc, &[first, before, lines, after, "end\n"])
+}
+
+/// The steps of the first shelf's medium.
+fn steps_of(host: &Host<MemMedium>) -> Option<&[Step]> {
+    host.shelves.first()?.trace()
+}
+
+/// Each block is read and written once, and then the guest's own calls come to the destination alone.
+#[test]
+fn a_move_copies_each_block_once(rt: HostRuntime) -> Result<(), Fail> {
+    let mut left = run(&rt, rt.alloc(), MOVING, ONE_SHELF)?;
+    assert!(&rt; left.status == Status::Done);
+    let mut source = vec![in rt.alloc(); Step::Put(3)]?;
+    let mut destination = Vec::new(rt.alloc());
+    for b in 0..16 {
+        source.push(Step::Get(b))?;
+        destination.push(Step::Put(b))?;
+    }
+    for step in [Step::Get(3), Step::Put(4), Step::Get(3), Step::Get(4)] {
+        destination.push(step)?;
+    }
+    assert!(&rt; steps_of(&left.from) == Some(source.as_slice()));
+    assert!(&rt; steps_of(&left.to) == Some(destination.as_slice()));
+    assert!(&rt; block_of(&mut left.from, 0, 3) == Some([0x5a; 512]));
+    assert!(&rt; block_of(&mut left.from, 0, 4) == Some([0; 512]));
+    assert!(&rt; block_of(&mut left.to, 0, 3) == Some([0x5a; 512]));
+    assert!(&rt; block_of(&mut left.to, 0, 4) == Some([0x5a; 512]));
+    Ok(())
+}
+
+/// What is written after a move stands at the destination alone.
+#[test]
+fn lanes_go_on_at_the_destination(rt: HostRuntime) -> Result<(), Fail> {
+    let mut left = run(&rt, rt.alloc(), MOVING_LANES, TWO_SHELVES)?;
+    assert!(&rt; left.status == Status::Done);
+    assert!(&rt; block_of(&mut left.from, 1, 14) == Some([0; 512]));
+    assert!(&rt; block_of(&mut left.to, 1, 14) == Some([0x22; 512]));
+    Ok(())
+}
+
+/// Where the destination's third put fails the migration is given up, with or without acts, and the guests go on at the
+/// source.
+#[test]
+fn a_failed_put_gives_up(rt: HostRuntime) -> Result<(), Fail> {
+    let lines = "migrate\nsuspend\ngive up\n";
+    let failing = Given {
+        failing_to_puts: THIRD_PUT,
+        ..ONE_SHELF
+    };
+    let left = run(&rt, rt.alloc(), AT_ONCE, failing)?;
+    let text = transcript(rt.alloc(), ["", lines, ""])?;
+    assert!(&rt; left.status == Status::GaveUp && left.output.bytes() == text.as_slice());
+    let failing = Given {
+        failing_to_puts: THIRD_PUT,
+        ..TWO_SHELVES
+    };
+    let mut left = run(&rt, rt.alloc(), MOVING_LANES, failing)?;
+    let text = transcript(rt.alloc(), [BEFORE_MOVE, lines, AFTER_MOVE])?;
+    assert!(&rt; left.status == Status::GaveUp && left.output.bytes() == text.as_slice());
+    assert!(&rt; block_of(&mut left.from, 1, 14) == Some([0x22; 512]));
+    assert!(&rt; block_of(&mut left.to, 1, 14) == Some([0; 512]));
+    Ok(())
+}

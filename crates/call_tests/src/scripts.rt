@@ -1,0 +1,301 @@
+//! Scripts as values: how they are read, alone and in front of other bytes, and how they are written.
+
+ghost use Rattle.std.specs.Prelude.{IfOk};
+ghost use Rattle.nvm_model.specs.ScriptText.{IsScript};
+
+use mig_base::{BytesSink, Failed};
+use nvm_values::Op;
+use script::{Act, BadLine, Head, LaneSet, ParseRefusal, Script, Why};
+use script::{parse, parse_front, write_script};
+use std::alloc::{AllocError, Global};
+use std::process::Abort;
+use std::test::Fail;
+
+/// A script, line by line.
+const LINES: [&str; 20] = [
+    "nvmigrate script 1\n",
+    "blocks 130\n",
+    "shelf 65\n",
+    "lanes 2\n",
+    "lane 1 sq 4 cq 4 pages 2\n",
+    "lane 2 sq 4 cq 4 pages 3\n",
+    "burst 4\n",
+    "mix 0\n",
+    "change 4\n",
+    "slice 4\n",
+    "small 4\n",
+    "pages 4\n",
+    "patience 8\n",
+    "migrate 3\n",
+    "1 fill 0 5a\n",
+    "2 submit 1 write 3 1 0 -\n",
+    "1 poke 1 8 00ff\n",
+    "2 list 0 1 2\n",
+    "1 idle\n",
+    "end\n",
+];
+
+/// The script with something in place of a line.
+fn spoilt(alloc: Global, line: usize, text: &str) -> Result<Vec<u8>, AllocError> {
+    let mut whole = Vec::new(alloc);
+    for (i, right) in LINES.iter().enumerate() {
+        let part = if i + 1 == line { text } else { right };
+        whole.extend_from_slice(part.as_bytes())?;
+    }
+    Ok(whole)
+}
+
+/// What a text is read as, where it isn't too long.
+fn read(rt: &impl Abort, alloc: Global, text: &[u8]) -> Result<Script, ParseRefusal>
+    ensures { IfOk result (λ s. IsScript s) }
+{
+    assert!(rt; text.len() < 1 << 24);
+    parse(alloc, text)
+}
+
+/// The act that stands at line 15.
+fn act_at(rt: &impl Abort, alloc: Global, line: &str) -> Result<Option<(u8, Act)>, AllocError> {
+    let text = spoilt(alloc, 15, line)?;
+    match read(rt, alloc, &text) {
+        Ok(script) => Ok(script.acts.list().first().copied()),
+        Err(_) => Ok(None),
+    }
+}
+
+#[test]
+fn a_script_is_read(rt: HostRuntime) -> Result<(), Fail> {
+    let text = spoilt(rt.alloc(), 0, "")?;
+    let script = read(&rt, rt.alloc(), &text).ok().ok_or("it is a script")?;
+    let none = LaneSet {
+        sq: 0,
+        cq: 0,
+        pages: 0,
+    };
+    let mut sets = [none; 8];
+    sets[0] = LaneSet {
+        sq: 4,
+        cq: 4,
+        pages: 2,
+    };
+    sets[1] = LaneSet {
+        sq: 4,
+        cq: 4,
+        pages: 3,
+    };
+    let head = Head {
+        blocks: 130,
+        shelf: 65,
+        lanes: 2,
+        sets,
+        burst: 4,
+        mix: 0,
+        change: 4,
+        slice: 4,
+        small: 4,
+        pages: 4,
+        patience: 8,
+        migrate: Some(3),
+    };
+    assert_eq!(rt; script.head, head);
+    assert_eq!(rt; script.acts.list().len(), 5);
+    Ok(())
+}
+
+#[test]
+fn acts_are_read(rt: HostRuntime) -> Result<(), Fail> {
+    let fill = Act::Fill {
+        page: 0,
+        byte: 0x5a,
+    };
+    assert!(rt; act_at(&rt, rt.alloc(), "1 fill 0 5a\n")? == Some((1, fill)));
+    let submit = Act::Submit {
+        cid: 65535,
+        op: Op::Verify,
+        slba: u64::MAX,
+        count: 65536,
+        p1: None,
+        p2: Some(2),
+    };
+    assert!(rt;
+        act_at(
+            &rt,
+            rt.alloc(),
+            "2 submit 65535 verify 18446744073709551615 65536 - 2\n"
+        )? == Some((2, submit))
+    );
+    let mut bytes = [0; 32];
+    bytes[0] = 0xde;
+    bytes[1] = 0xad;
+    let poke = Act::Poke {
+        page: 1,
+        at: 4094,
+        bytes,
+        used: 2,
+    };
+    assert!(rt; act_at(&rt, rt.alloc(), "1 poke 1 4094 dead\n")? == Some((1, poke)));
+    let list = Act::List {
+        page: 2,
+        pages: [1, 2, 0, 0, 0, 0, 0, 0],
+        used: 2,
+    };
+    assert!(rt; act_at(&rt, rt.alloc(), "2 list 2 1 2\n")? == Some((2, list)));
+    assert!(rt; act_at(&rt, rt.alloc(), "2 wait\n")? == Some((2, Act::Wait)));
+    assert!(rt; act_at(&rt, rt.alloc(), "2 idle\n")? == Some((2, Act::Idle)));
+    Ok(())
+}
+
+#[test]
+fn raw_entries_are_read(rt: HostRuntime) -> Result<(), Fail> {
+    let mut line = String::from_str(rt.alloc(), "1 raw ")?;
+    for _ in 0..64 {
+        line.push_str("0f")?;
+    }
+    line.push_str("\n")?;
+    let raw = Act::Raw { entry: [0x0f; 64] };
+    assert!(rt; act_at(&rt, rt.alloc(), line.as_str())? == Some((1, raw)));
+    Ok(())
+}
+
+#[test]
+fn acts_are_limited(rt: HostRuntime) -> Result<(), Fail> {
+    let mut text = Vec::new(rt.alloc());
+    for line in &LINES[..13] {
+        text.extend_from_slice(line.as_bytes())?;
+    }
+    for _ in 0..65536 {
+        text.extend_from_slice(b"1 wait\n")?;
+    }
+    let mut most = text.clone()?;
+    most.extend_from_slice(b"end\n")?;
+    assert!(rt; read(&rt, rt.alloc(), &most).is_ok());
+    text.extend_from_slice(b"1 wait\nend\n")?;
+    let told = ParseRefusal::Bad(BadLine {
+        line: 65550,
+        why: Why::Range,
+    });
+    assert!(rt; read(&rt, rt.alloc(), &text).err() == Some(told));
+    Ok(())
+}
+
+/// A script with each kind of act.
+const EACH_ACT: &str = "\
+nvmigrate script 1
+blocks 131072
+shelf 65536
+lanes 2
+lane 1 sq 64 cq 256 pages 256
+lane 2 sq 2 cq 2 pages 1
+burst 64
+mix 12345678
+change 65536
+slice 1
+small 131072
+pages 2064
+patience 65535
+migrate 65535
+1 fill 255 05
+1 poke 0 4064 000102030405060708090a0b0c0d0e0f101112131415161718191a1b1c1d1e1f
+1 list 0 0 255 1 2 3 4 5 6
+1 submit 65535 write 18446744073709551615 65536 - 255
+2 submit 0 flush 0 1 0 -
+2 submit 1 read 0 1 0 -
+2 submit 2 compare 0 1 - -
+2 submit 3 zeroes 0 1 - -
+2 submit 4 verify 0 1 - -
+2 raw 000102030405060708090a0b0c0d0e0f101112131415161718191a1b1c1d1e1f202122232425262728292a2b2c2d2e2f303132333435363738393a3b3c3d3eff
+2 wait
+1 idle
+end
+";
+
+/// Reads the script, and writes it to a sink whose calls of these numbers fail: the answer, and what was taken.
+fn rewritten(
+    rt: &impl Abort,
+    alloc: Global,
+    fails: &[u64],
+) -> Result<(Result<(), Failed>, BytesSink), Fail> {
+    let Ok(script) = read(rt, alloc, EACH_ACT.as_bytes()) else {
+        return Err(Fail::from("no script"));
+    };
+    let fails = fails.to_vec(alloc)?;
+    let mut sink = BytesSink::make(alloc, 4096, fails).map_err(|_| "no sink")?;
+    let answer = write_script(&script, &mut sink);
+    Ok((answer, sink))
+}
+
+#[test]
+fn a_script_is_written(rt: HostRuntime) -> Result<(), Fail> {
+    let text = EACH_ACT.as_bytes();
+    let (answer, whole) = rewritten(&rt, rt.alloc(), &[])?;
+    assert!(rt; answer == Ok(()));
+    assert!(rt; whole.bytes() == text);
+    for (call, lines) in [(1, 0), (6, 5), (15, 14), (27, 26)] {
+        let (answer, front) = rewritten(&rt, rt.alloc(), &[call])?;
+        assert!(rt; answer == Err(Failed));
+        assert!(rt; text.starts_with(front.bytes()));
+        let feeds = front.bytes().iter().filter(|byte| **byte == b'\n');
+        assert_eq!(rt; feeds.count(), lines);
+    }
+    Ok(())
+}
+
+/// What the front of a text is read as, where it isn't too long.
+fn read_front(rt: &impl Abort, alloc: Global, text: &[u8]) -> Result<(Script, usize), ParseRefusal>
+    ensures { IfOk result (λ x. IsScript x.0) }
+{
+    assert!(rt; text.len() < 1 << 24);
+    parse_front(alloc, text)
+}
+
+/// The script and bytes behind it.
+fn followed(alloc: Global, behind: &[u8]) -> Result<Vec<u8>, AllocError> {
+    let mut text = spoilt(alloc, 0, "")?;
+    text.extend_from_slice(behind)?;
+    Ok(text)
+}
+
+#[test]
+fn fronts_are_read(rt: HostRuntime) -> Result<(), Fail> {
+    let script = spoilt(rt.alloc(), 0, "")?;
+    let other = EACH_ACT.as_bytes();
+    for behind in [
+        b"".as_slice(),
+        b"x",
+        b"\n",
+        b"end\n",
+        b"1 wait\nend\n",
+        &script,
+        other,
+    ] {
+        let text = followed(rt.alloc(), behind)?;
+        let (read, end) = read_front(&rt, rt.alloc(), &text)
+            .ok()
+            .ok_or("a script is there")?;
+        assert_eq!(rt; read.head.blocks, 130);
+        assert_eq!(rt; read.acts.list().len(), 5);
+        assert_eq!(rt; end, script.len());
+    }
+    Ok(())
+}
+
+#[test]
+fn bad_fronts_are_told(rt: HostRuntime) -> Result<(), Fail> {
+    let spoils = [
+        (1, "nvmigrate script 2\n", Why::Form),
+        (2, "blocks 0\n", Why::Range),
+        (15, "3 fill 0 5a\n", Why::Range),
+        (19, "1 wait 1\n", Why::Form),
+        (20, "end \n", Why::Form),
+        (20, "end", Why::Cut),
+        (20, "", Why::Cut),
+    ];
+    for (line, text, why) in spoils {
+        let text = spoilt(rt.alloc(), line, text)?;
+        let found = read_front(&rt, rt.alloc(), &text).err();
+        assert!(rt; found == Some(ParseRefusal::Bad(BadLine {
+            line: line as u32,
+            why,
+        })));
+    }
+    Ok(())
+}
