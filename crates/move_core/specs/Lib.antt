@@ -1,0 +1,4 @@
+pub mod State
+pub mod Covered
+pub mod Does
+pub mod Room
