@@ -10,3 +10,7 @@ mod programs;
 mod scripts;
 #[cfg(test)]
 mod stops;
+#[cfg(test)]
+mod streams;
+#[cfg(test)]
+mod transcripts;

@@ -27,6 +27,3 @@ pub use source::Source;
 pub use span::Span;
 pub use streams::{CollectRefusal, collect, send};
 pub use write_sink::WriteSink;
-
-#[cfg(test)]
-mod tests;

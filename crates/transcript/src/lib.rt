@@ -11,6 +11,3 @@ pub use line_buf::LineBuf;
 pub use nvm_model::{Line, Outcome};
 pub use parse::{NotALine, parse_line};
 pub use print::print_line;
-
-#[cfg(test)]
-mod tests;

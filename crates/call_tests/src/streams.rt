@@ -1,4 +1,6 @@
-use crate::{
+//! Sources and sinks: short reads and writes, and calls that fail.
+
+use mig_base::{
     BytesSink, BytesSource, CollectRefusal, Failed, ReadSource, Sink, Source, WriteSink, collect,
     send,
 };

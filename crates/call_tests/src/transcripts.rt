@@ -1,8 +1,10 @@
-use super::*;
+//! Lines of transcripts: how they are printed and read.
+
 use mig_base::LaneNo;
 use nvm_values::Status;
 use std::process::Abort;
 use std::test::Fail;
+use transcript::{Line, LineBuf, NotALine, Outcome, parse_line, print_line};
 
 /// The SHA-256 of no bytes.
 const DIGEST: [u8; 32] = [
