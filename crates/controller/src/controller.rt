@@ -1,16 +1,14 @@
-ghost use Rattle.std.specs.Prelude.{◌≡◌, ◌+◌, ◌-◌, ◌*◌, ◌/◌, ◌<◌, ◌≤◌, ◌++◌, [], All, IfErr, IfOk, IsTrue, MatchResult, length, map, slice_index_or, slice_set, sum};
-ghost use Rattle.mig_base.specs.Count.{NeverFall, RiseBy};
+ghost use Rattle.std.specs.Prelude.{◌≡◌, ◌+◌, ◌-◌, ◌*◌, ◌/◌, ◌<◌, ◌≤◌, ◌++◌, [], All, IfErr, IfOk, MatchResult, length, map, slice_set, sum};
 ghost use Rattle.nvm_values.specs.declared.op.Op.TheVariants.{Flush, Read};
 ghost use Rattle.nvm_model.specs.declared.script.Script.{Script};
-ghost use Rattle.nvm_model.specs.History.{is_faulted};
 ghost use Rattle.nvm_model.specs.Ring.{places_between};
 ghost use Rattle.nvm_model.specs.ScriptText.{IsSet};
 ghost use Rattle.nvm_model.specs.World.{Lane, set_of};
 ghost use Rattle.nvm_ring.specs.Stands.{TakesReaped};
 ghost use Rattle.guest_ram.specs.Window.{data_pages};
 ghost use Rattle.hall.specs.Plan.{pieces_of};
-ghost use Rattle.nvm_blocks.specs.Namespace.{IsSameButDone, block_count, entries_of, media_of, rooms_of, told_of, with_entry};
-ghost use Rattle.nvm_blocks.specs.Work.{HasPages, HasToldEffect, IsSameButData, IsStop};
+ghost use Rattle.nvm_blocks.specs.Namespace.{HasAppliedIn, HasRoom, IsForNamespace, entries_of, with_entry};
+ghost use Rattle.nvm_blocks.specs.Work.{IsSameButData};
 ghost use Rattle.controller.specs.declared.controller.Phase.TheVariants.{Running};
 ghost use Rattle.controller.specs.Pair.{Fetches, IsAsked, IsFetched, Posts, Stands, lane_pieces, new_pair, outcomes_of, pair_of, told_fetch, with_pair, worked};
 
@@ -183,25 +181,13 @@ impl Controller {
         namespace: &mut Namespace<M>,
         w: &mut Window,
     ) -> PieceResult
-        requires op { p.now.op ≡ Flush → ⊥ }
-        requires some { 1 ≤ p.now.span.count }
-        requires few { p.now.span.count ≤ 64 }
-        requires within { p.now.span.first + p.now.span.count ≤ block_count namespace.old }
-        requires one_shelf { p.now.span.first / namespace.old.shelf ≡ (p.now.span.first + p.now.span.count - 1) / namespace.old.shelf }
-        requires pages { HasPages p.now (length (data_pages w.old)) }
-        requires room { length (slice_index_or (entries_of namespace.old) (p.now.span.first / namespace.old.shelf) [])
-            < slice_index_or (rooms_of namespace.old) (p.now.span.first / namespace.old.shelf) 0 }
-
-        ensures effect { HasToldEffect p.now p.now.span.first result
-            (told_of M.blocks namespace.old) (data_pages w.old) (told_of M.blocks namespace.new) (data_pages w.new) }
-        ensures stops { IsStop p.now.op p.now.span.count result.outcome }
+        requires piece { IsForNamespace namespace.old (length (data_pages w.old)) p.now }
+        requires room { HasRoom namespace.old (p.now.span.first / namespace.old.shelf) }
+        ensures applied { HasAppliedIn M.state M.moves p.now result namespace.old (data_pages w.old) namespace.new (data_pages w.new) }
+        ensures entry { entries_of namespace.new ≡ with_entry (p.now.span.first / namespace.old.shelf)
+            (record { lane = p.now.lane; index = index; ticket = ticket; result = result }) (entries_of namespace.old) }
         ensures window { IsSameButData w.old w.new }
         ensures kept { (p.now.op ≡ Read → ⊥) → w.new ≡ w.old }
-        ensures entry { entries_of namespace.new
-            ≡ with_entry (p.now.span.first / namespace.old.shelf) (record { lane = p.now.lane; index = index; ticket = ticket; result = result }) (entries_of namespace.old) }
-        ensures rest { IsSameButDone M.size namespace.old namespace.new }
-        ensures later { NeverFall (map M.faults (media_of namespace.old)) (map M.faults (media_of namespace.new)) }
-        ensures cause { IsTrue (is_faulted result.outcome) → RiseBy 1 (map M.faults (media_of namespace.old)) (map M.faults (media_of namespace.new)) }
         ensures same { self.new ≡ self.old }
     {
         namespace.apply(p, index, ticket, w)

@@ -3,6 +3,7 @@ use Rattle.std.proofs.lemmas.List.{get_or-take, length-map, length-replicate, le
 use Rattle.nvm_model.specs.declared.script.Head.{Head}
 use Rattle.nvm_model.specs.declared.script.LaneSet.{LaneSet}
 use Rattle.nvm_model.specs.declared.script.Script.{Script}
+use Rattle.nvm_model.specs.Medium.{MediumState, faults_in, told_in}
 use Rattle.nvm_model.specs.Memory.{zero_page}
 use Rattle.nvm_model.specs.Shelf.{joined}
 use Rattle.nvm_model.specs.ScriptText.{IsHead, IsScript}
@@ -60,14 +61,14 @@ made_windows {s} {windows} is are =
     })
 
 -- A run over two namespaces' media is a run over the hosts that have these and the guests' memory.
-pub ended_is : {M : Type 0} (blocks : M → Option (List (List ℕ))) (faults : M → ℕ) {s : Script} {ending : Ending} (from to new_from new_to : List M) (from_ram to_ram : List WindowState) {bytes new_bytes : Option (List ℕ)}
+pub ended_is : {M I : Type 0} (state : M → MediumState I) {s : Script} {ending : Ending} (from to new_from new_to : List M) (from_ram to_ram : List WindowState) {bytes new_bytes : Option (List ℕ)}
     {from_media to_media : List M} {new_from_ram new_to_ram : List WindowState} →
     new_from ≡ from_media → new_to ≡ to_media → from_ram ≡ new_from_ram → to_ram ≡ new_to_ram →
-    IfTold (joined (map blocks from)) (joined (map blocks to)) (HasRun s ending (map faults from) (map faults to) bytes
-    (joined (map blocks new_from)) (whole_memory from_ram) (joined (map blocks new_to)) (whole_memory to_ram) (map faults new_from) (map faults new_to) new_bytes) →
-    HasEnded s ending (all_told blocks faults from) (all_told blocks faults to) bytes (all_told blocks faults from_media) (all_told blocks faults to_media) (whole_memory new_from_ram) (whole_memory new_to_ram) new_bytes
-ended_is {M} blocks faults {s} {ending} from to new_from new_to from_ram to_ram {bytes} {new_bytes} {to_media = to_media} {new_from_ram} {new_to_ram} from_is to_is from_ram_is to_ram_is run =
-    let ended = λ (media other : List M) (x y : List WindowState). HasEnded s ending (all_told blocks faults from) (all_told blocks faults to) bytes (all_told blocks faults media) (all_told blocks faults other) (whole_memory x) (whole_memory y) new_bytes in
+    IfTold (joined (told_in state from)) (joined (told_in state to)) (HasRun s ending (faults_in state from) (faults_in state to) bytes
+    (joined (told_in state new_from)) (whole_memory from_ram) (joined (told_in state new_to)) (whole_memory to_ram) (faults_in state new_from) (faults_in state new_to) new_bytes) →
+    HasEnded s ending (all_told state from) (all_told state to) bytes (all_told state from_media) (all_told state to_media) (whole_memory new_from_ram) (whole_memory new_to_ram) new_bytes
+ended_is {M} state {s} {ending} from to new_from new_to from_ram to_ram {bytes} {new_bytes} {to_media = to_media} {new_from_ram} {new_to_ram} from_is to_is from_ram_is to_ram_is run =
+    let ended = λ (media other : List M) (x y : List WindowState). HasEnded s ending (all_told state from) (all_told state to) bytes (all_told state media) (all_told state other) (whole_memory x) (whole_memory y) new_bytes in
     subst (λ (m : List M). ended m to_media new_from_ram new_to_ram) from_is (subst (λ (m : List M). ended new_from m new_from_ram new_to_ram) to_is
     (subst (λ (r : List WindowState). ended new_from new_to r new_to_ram) from_ram_is (subst (λ (r : List WindowState). ended new_from new_to from_ram r) to_ram_is
     (record { run = run }))))

@@ -1,5 +1,6 @@
-use Rattle.std.specs.Prelude.{ℕ, Bool, true, false, List, Option, map}
+use Rattle.std.specs.Prelude.{ℕ, Bool, true, false, List, Option}
 use Rattle.nvm_model.specs.declared.script.Script.{Script}
+use Rattle.nvm_model.specs.Medium.{MediumState, faults_in, told_in}
 use Rattle.nvm_model.specs.Shelf.{joined}
 use Rattle.session.specs.declared.ending.Ending.{Ending}
 use Rattle.session.specs.declared.ending.Ending.TheVariants.{Done, GaveUp}
@@ -40,5 +41,5 @@ pub record HasBroken (s : Script) (from to : Media) (bytes : Option (List ℕ)) 
       (joined to.shelves) (joined new_from.shelves) (joined new_to.shelves) new_from.faults new_to.faults new_bytes)
 
 -- what media tell
-abbrev pub all_told : {M : Type 0} → (M → Option (List (List ℕ))) → (M → ℕ) → List M → Media
-all_told blocks faults media = record { shelves = map blocks media; faults = map faults media }
+abbrev pub all_told : {M I : Type 0} → (M → MediumState I) → List M → Media
+all_told state media = record { shelves = told_in state media; faults = faults_in state media }

@@ -1,5 +1,6 @@
 // The hosts against the script, and their media as namespaces.
-ghost use Rattle.std.specs.Prelude.{◌≡◌, ◌/◌, [], IfOk, OnErr, OnOk, map, replicate};
+ghost use Rattle.std.specs.Prelude.{◌≡◌, ◌/◌, [], IfOk, OnErr, OnOk, replicate};
+ghost use Rattle.nvm_model.specs.Medium.{sizes_in};
 ghost use Rattle.nvm_model.specs.ScriptText.{IsHead};
 ghost use Rattle.nvm_blocks.specs.Namespace.{media_of};
 ghost use Rattle.session.specs.Shelves.{IsNamespaceOf};
@@ -22,7 +23,7 @@ pub(crate) fn host_difference<M: Medium>(
     count: u64,
     shelf: u64,
 ) -> Option<(u64, u64)>
-    ensures first { result ≡ first_difference (sizes_of (map M.size host.now.shelves.items) count shelf) }
+    ensures first { result ≡ first_difference (sizes_of (sizes_in M.state host.now.shelves.items) count shelf) }
 {
     let shelves = host.shelves.len() as u64;
     if shelves != count {
@@ -49,8 +50,8 @@ pub(crate) fn take_namespaces<M: Medium>(
     to: &mut Host<M>,
 ) -> Result<(Namespace<M>, Namespace<M>), OutOfMemory>
     requires head { IsHead head.now }
-    requires sizes { map M.size from.old.shelves.items ≡ replicate (head.now.blocks / head.now.shelf) head.now.shelf }
-    requires to_sizes { map M.size to.old.shelves.items ≡ replicate (head.now.blocks / head.now.shelf) head.now.shelf }
+    requires sizes { sizes_in M.state from.old.shelves.items ≡ replicate (head.now.blocks / head.now.shelf) head.now.shelf }
+    requires to_sizes { sizes_in M.state to.old.shelves.items ≡ replicate (head.now.blocks / head.now.shelf) head.now.shelf }
     ensures media { IfOk result (λ x. (media_of x.0 ≡ from.old.shelves.items) × (media_of x.1 ≡ to.old.shelves.items)) }
     ensures fit { IfOk result (λ x. IsNamespaceOf head.now x.0 × IsNamespaceOf head.now x.1) }
     ensures taken { OnOk result ((from.new.shelves.items ≡ []) × (to.new.shelves.items ≡ [])) }
@@ -76,7 +77,7 @@ fn take_namespace<M: Medium>(
     host: &mut Host<M>,
 ) -> Result<Namespace<M>, OutOfMemory>
     requires head { IsHead head.now }
-    requires sizes { map M.size host.old.shelves.items ≡ replicate (head.now.blocks / head.now.shelf) head.now.shelf }
+    requires sizes { sizes_in M.state host.old.shelves.items ≡ replicate (head.now.blocks / head.now.shelf) head.now.shelf }
     ensures media { IfOk result (λ n. media_of n ≡ host.old.shelves.items) }
     ensures fits { IfOk result (IsNamespaceOf head.now) }
     ensures taken { OnOk result (host.new.shelves.items ≡ []) }

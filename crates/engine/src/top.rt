@@ -1,6 +1,7 @@
 // The top call.
 ghost use Rattle.std.specs.Prelude.{◌≡◌, ◌≤◌, ◌/◌, ◌++◌, [], IfOk, IfErr, OnErr, map, string_bytes};
 ghost use Rattle.mig_base.specs.Count.{HasCause, RiseBy, RisesBy};
+ghost use Rattle.nvm_model.specs.Medium.{faults_in, sizes_in, told_in};
 ghost use Rattle.nvm_model.specs.History.{Complete, faults_shown, has_given_up};
 ghost use Rattle.nvm_model.specs.Shelf.{joined};
 ghost use Rattle.nvm_model.specs.Turn.{RunsInTurns};
@@ -45,34 +46,34 @@ pub fn nvmigrate<R: Threads + Sync, S: Source, K: Sink, M: Medium + Send, G: Gat
     gate: &G,
 ) -> Status
     // The text is a whole transcript for the script that the input spelled, and its events are a legal history.
-    ensures history { IfRuns (map string_bytes words.now) (OnEnded result (Ran (S.left input.old) (joined (map M.blocks from.old.shelves.items)) (joined (map M.blocks to.old.shelves.items)) (K.bytes output.old) (K.bytes output.new)
+    ensures history { IfRuns (map string_bytes words.now) (OnEnded result (Ran (S.left input.old) (joined (told_in M.state from.old.shelves.items)) (joined (told_in M.state to.old.shelves.items)) (K.bytes output.old) (K.bytes output.new)
         (λ script blocks lines world. Unit {0}))) }
     // The events stand in turns, whose pieces have the script's order, and the migration stands where the script asks for it.
-    ensures turns { IfRuns (map string_bytes words.now) (OnEnded result (Ran (S.left input.old) (joined (map M.blocks from.old.shelves.items)) (joined (map M.blocks to.old.shelves.items)) (K.bytes output.old) (K.bytes output.new)
+    ensures turns { IfRuns (map string_bytes words.now) (OnEnded result (Ran (S.left input.old) (joined (told_in M.state from.old.shelves.items)) (joined (told_in M.state to.old.shelves.items)) (K.bytes output.old) (K.bytes output.new)
         (λ script blocks lines world. RunsInTurns script blocks lines world))) }
     // Each guest did its acts, and each of its commands was fetched, done, posted and reaped.
-    ensures complete { IfRuns (map string_bytes words.now) (OnEnded result (Ran (S.left input.old) (joined (map M.blocks from.old.shelves.items)) (joined (map M.blocks to.old.shelves.items)) (K.bytes output.old) (K.bytes output.new)
+    ensures complete { IfRuns (map string_bytes words.now) (OnEnded result (Ran (S.left input.old) (joined (told_in M.state from.old.shelves.items)) (joined (told_in M.state to.old.shelves.items)) (K.bytes output.old) (K.bytes output.new)
         (λ script blocks lines world. Complete script world))) }
     // Where the guest was moved, the source holds the blocks and the whole memory of the world then, and the destination
     // those of the world at the end. Where it wasn't, the source holds these.
-    ensures hosts { IfRuns (map string_bytes words.now) (OnEnded result (Ran (S.left input.old) (joined (map M.blocks from.old.shelves.items)) (joined (map M.blocks to.old.shelves.items)) (K.bytes output.old) (K.bytes output.new)
+    ensures hosts { IfRuns (map string_bytes words.now) (OnEnded result (Ran (S.left input.old) (joined (told_in M.state from.old.shelves.items)) (joined (told_in M.state to.old.shelves.items)) (K.bytes output.old) (K.bytes output.new)
         (λ script blocks lines world. HostsHold script blocks lines world
-        (map M.blocks from.new.shelves.items) (whole_memory from.new.ram) (map M.blocks to.new.shelves.items) (whole_memory to.new.ram)))) }
+        (told_in M.state from.new.shelves.items) (whole_memory from.new.ram) (told_in M.state to.new.shelves.items) (whole_memory to.new.ram)))) }
     // Each fault that a line shows, and a migration that was given up, has a failed call of a medium.
-    ensures faults { IfRuns (map string_bytes words.now) (OnEnded result (Ran (S.left input.old) (joined (map M.blocks from.old.shelves.items)) (joined (map M.blocks to.old.shelves.items)) (K.bytes output.old) (K.bytes output.new)
+    ensures faults { IfRuns (map string_bytes words.now) (OnEnded result (Ran (S.left input.old) (joined (told_in M.state from.old.shelves.items)) (joined (told_in M.state to.old.shelves.items)) (K.bytes output.old) (K.bytes output.new)
         (λ script blocks lines world. RiseBy (faults_shown lines)
-        (map M.faults from.old.shelves.items ++ map M.faults to.old.shelves.items) (map M.faults from.new.shelves.items ++ map M.faults to.new.shelves.items)))) }
+        (faults_in M.state from.old.shelves.items ++ faults_in M.state to.old.shelves.items) (faults_in M.state from.new.shelves.items ++ faults_in M.state to.new.shelves.items)))) }
     // The answer says that the migration was given up exactly where the text does.
-    ensures gave_up { IfRuns (map string_bytes words.now) (OnEnded result (Ran (S.left input.old) (joined (map M.blocks from.old.shelves.items)) (joined (map M.blocks to.old.shelves.items)) (K.bytes output.old) (K.bytes output.new)
+    ensures gave_up { IfRuns (map string_bytes words.now) (OnEnded result (Ran (S.left input.old) (joined (told_in M.state from.old.shelves.items)) (joined (told_in M.state to.old.shelves.items)) (K.bytes output.old) (K.bytes output.new)
         (λ script blocks lines world. has_given_up lines ≡ is_gave_up result))) }
     // Where the output failed, some lines of such a run were written whole and a part of the next, at most one turn's
     // events were done and not written, and one host holds the blocks of the world that they reach.
-    ensures sink { IfRuns (map string_bytes words.now) (OnWriteFault result (Began (S.left input.old) (joined (map M.blocks from.old.shelves.items)) (joined (map M.blocks to.old.shelves.items)) (K.bytes output.old) (K.bytes output.new)
-        (joined (map M.blocks from.new.shelves.items)) (joined (map M.blocks to.new.shelves.items))
+    ensures sink { IfRuns (map string_bytes words.now) (OnWriteFault result (Began (S.left input.old) (joined (told_in M.state from.old.shelves.items)) (joined (told_in M.state to.old.shelves.items)) (K.bytes output.old) (K.bytes output.new)
+        (joined (told_in M.state from.new.shelves.items)) (joined (told_in M.state to.new.shelves.items))
         (λ script blocks lines world. Complete script world × RiseBy (faults_shown lines)
-        (map M.faults from.old.shelves.items ++ map M.faults to.old.shelves.items) (map M.faults from.new.shelves.items ++ map M.faults to.new.shelves.items)))) }
+        (faults_in M.state from.old.shelves.items ++ faults_in M.state to.old.shelves.items) (faults_in M.state from.new.shelves.items ++ faults_in M.state to.new.shelves.items)))) }
     ensures before_run { OnRefused result ((K.bytes output.new ≡ K.bytes output.old)
-        × (map M.blocks from.new.shelves.items ≡ map M.blocks from.old.shelves.items) × (map M.blocks to.new.shelves.items ≡ map M.blocks to.old.shelves.items)) }
+        × (told_in M.state from.new.shelves.items ≡ told_in M.state from.old.shelves.items) × (told_in M.state to.new.shelves.items ≡ told_in M.state to.old.shelves.items)) }
     ensures usage { IsUsage (map string_bytes words.now) result }
     ensures bad_script { IfRuns (map string_bytes words.now) (IsBadScript (S.left input.old) result) }
     // The line and the cause that it tells are those of the first line that isn't right.
@@ -81,7 +82,7 @@ pub fn nvmigrate<R: Threads + Sync, S: Source, K: Sink, M: Medium + Send, G: Gat
     ensures shown { IfShows (map string_bytes words.now) (IsShown (S.left input.old) (K.bytes output.old) (K.bytes output.new) result) }
     ensures untouched { IfShows (map string_bytes words.now) ((from.new ≡ from.old) × (to.new ≡ to.old)) }
     ensures too_long { IsLong (S.left input.old) result }
-    ensures host_size { IfRuns (map string_bytes words.now) (IsHostSize (S.left input.old) (map M.size from.old.shelves.items) (map M.size to.old.shelves.items) result) }
+    ensures host_size { IfRuns (map string_bytes words.now) (IsHostSize (S.left input.old) (sizes_in M.state from.old.shelves.items) (sizes_in M.state to.old.shelves.items) result) }
     ensures read_fault { IsReadFault (S.faults input.old) (S.faults input.new) result }
     ensures write_fault { IsWriteFault (K.faults output.old) (K.faults output.new) result }
 {
@@ -112,9 +113,9 @@ fn prepare<S: Source, M: Medium>(
     ensures taken { IfOk result (λ r. IsTaken r.0) }
     ensures spelled { IfOk result (λ r. Spells (S.left input.old) r.0) }
     ensures room { IfOk result (λ r. IsRoom r.0 r.1) }
-    ensures sizes { IfOk result (λ r. HaveSizes r.0 (map M.size from.now.shelves.items) (map M.size to.now.shelves.items)) }
+    ensures sizes { IfOk result (λ r. HaveSizes r.0 (sizes_in M.state from.now.shelves.items) (sizes_in M.state to.now.shelves.items)) }
     ensures refusal { IfErr result (IsRefusal (S.left input.old) (S.faults input.old) (S.faults input.new)
-        (map M.size from.now.shelves.items) (map M.size to.now.shelves.items)) }
+        (sizes_in M.state from.now.shelves.items) (sizes_in M.state to.now.shelves.items)) }
 {
     let script = match read_script(alloc, input) {
         Ok(script) => script,
@@ -138,8 +139,8 @@ fn prepare<S: Source, M: Medium>(
 /// The first size of either host that differs from those of the script: what it is, and what is asked.
 fn hosts_difference<M: Medium>(script: &Script, from: &Host<M>, to: &Host<M>) -> Option<(u64, u64)>
     requires { 1 ≤ script.now.head.shelf }
-    ensures first { result ≡ first_difference (sizes_of (map M.size from.now.shelves.items) (script.now.head.blocks / script.now.head.shelf) script.now.head.shelf
-        ++ sizes_of (map M.size to.now.shelves.items) (script.now.head.blocks / script.now.head.shelf) script.now.head.shelf) }
+    ensures first { result ≡ first_difference (sizes_of (sizes_in M.state from.now.shelves.items) (script.now.head.blocks / script.now.head.shelf) script.now.head.shelf
+        ++ sizes_of (sizes_in M.state to.now.shelves.items) (script.now.head.blocks / script.now.head.shelf) script.now.head.shelf) }
 {
     let shelf = u64::from(script.head.shelf);
     let count = u64::from(script.head.blocks) / shelf;
@@ -169,18 +170,18 @@ fn run_hosts<K: Sink, M: Medium>(
 ) -> Result<Ending, Stop>
     requires taken { IsTaken script.now }
     requires room { IsRoom script.now room }
-    requires sizes { HaveSizes script.now (map M.size from.old.shelves.items) (map M.size to.old.shelves.items) }
+    requires sizes { HaveSizes script.now (sizes_in M.state from.old.shelves.items) (sizes_in M.state to.old.shelves.items) }
     ensures ran { IfOk result (λ ending. HasEnded script.now ending
-        (all_told M.blocks M.faults from.old.shelves.items)
-        (all_told M.blocks M.faults to.old.shelves.items) (K.bytes output.old)
-        (all_told M.blocks M.faults from.new.shelves.items)
-        (all_told M.blocks M.faults to.new.shelves.items)
+        (all_told M.state from.old.shelves.items)
+        (all_told M.state to.old.shelves.items) (K.bytes output.old)
+        (all_told M.state from.new.shelves.items)
+        (all_told M.state to.new.shelves.items)
         (whole_memory from.new.ram) (whole_memory to.new.ram) (K.bytes output.new)) }
     ensures broken { IfErr result (λ stop. OnFailed stop (HasBroken script.now
-        (all_told M.blocks M.faults from.old.shelves.items)
-        (all_told M.blocks M.faults to.old.shelves.items) (K.bytes output.old)
-        (all_told M.blocks M.faults from.new.shelves.items)
-        (all_told M.blocks M.faults to.new.shelves.items) (K.bytes output.new))) }
+        (all_told M.state from.old.shelves.items)
+        (all_told M.state to.old.shelves.items) (K.bytes output.old)
+        (all_told M.state from.new.shelves.items)
+        (all_told M.state to.new.shelves.items) (K.bytes output.new))) }
     ensures nothing { IfErr result (λ stop. OnNoMemory stop ((K.bytes output.new ≡ K.bytes output.old)
         × (from.new.shelves.items ≡ from.old.shelves.items) × (to.new.shelves.items ≡ to.old.shelves.items))) }
     ensures cause { IfErr result (λ stop. OnFailed stop (RisesBy 1 (K.faults output.old) (K.faults output.new))) }
@@ -211,16 +212,16 @@ fn run_namespaces<K: Sink, M: Medium>(
     requires to_namespace { IsNamespaceOf script.now.head to_namespace }
     requires empty { (from.old.shelves.items ≡ []) × (to.old.shelves.items ≡ []) }
     ensures ran { IfOk result (λ ending. HasEnded script.now ending
-        (all_told M.blocks M.faults (media_of from_namespace))
-        (all_told M.blocks M.faults (media_of to_namespace)) (K.bytes output.old)
-        (all_told M.blocks M.faults from.new.shelves.items)
-        (all_told M.blocks M.faults to.new.shelves.items)
+        (all_told M.state (media_of from_namespace))
+        (all_told M.state (media_of to_namespace)) (K.bytes output.old)
+        (all_told M.state from.new.shelves.items)
+        (all_told M.state to.new.shelves.items)
         (whole_memory from.new.ram) (whole_memory to.new.ram) (K.bytes output.new)) }
     ensures broken { OnErr result (HasBroken script.now
-        (all_told M.blocks M.faults (media_of from_namespace))
-        (all_told M.blocks M.faults (media_of to_namespace)) (K.bytes output.old)
-        (all_told M.blocks M.faults from.new.shelves.items)
-        (all_told M.blocks M.faults to.new.shelves.items) (K.bytes output.new)) }
+        (all_told M.state (media_of from_namespace))
+        (all_told M.state (media_of to_namespace)) (K.bytes output.old)
+        (all_told M.state from.new.shelves.items)
+        (all_told M.state to.new.shelves.items) (K.bytes output.new)) }
     ensures cause { HasCause (K.faults output.old) (K.faults output.new) result }
 {
     let mut from_namespace = from_namespace;

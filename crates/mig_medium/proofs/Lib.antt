@@ -1,2 +1,1 @@
 pub mod BlockSteps
-pub mod Calls

@@ -1,5 +1,6 @@
 use Rattle.std.specs.Prelude.{ℕ, Bool, true, false, ◌∷◌, [], ◌++◌, List, Option, Some, None, length, nat_lt, replicate, if◌then◌else◌}
 use Rattle.nvm_model.specs.declared.trace.Step.{Step}
+use Rattle.nvm_model.specs.Medium.{Call, IsCall, MediumState}
 
 -- A medium in memory: its blocks, its trace while that has at most `room` steps, the numbers of the gets and of the
 -- puts that fail, how many of each were made, and how many failed.
@@ -12,6 +13,16 @@ pub record Memory : Type 0 where
   pub gets_made : ℕ
   pub puts_made : ℕ
   pub faults : ℕ
+
+-- what it is as a medium: it tells all its blocks, and has no meaning of its own
+abbrev pub state_of : Memory → MediumState (Unit {0})
+state_of m = record { blocks = Some m.blocks; trace = m.trace; faults = m.faults; size = length m.blocks; inside = tt }
+
+abbrev pub no_moves : Unit {0} → Step → Bool → Unit {0} → Type 0
+no_moves old step failed new = Unit {0}
+
+abbrev pub IsMemoryCall : Memory → Call → Memory → Type 0
+IsMemoryCall old c new = IsCall no_moves (state_of old) c (state_of new)
 
 -- the steps, while they are all
 abbrev pub told : Bool → List Step → Option (List Step)

@@ -1,7 +1,8 @@
-ghost use Rattle.std.specs.Prelude.{◌≡◌, ◌<◌, ◌≤◌, ◌↔◌, Some, [], Contains, IfOk, IsErr, IsFalse, IsTrue, OnErr, OnOk, length, option_map, slice_index_or, slice_set, vec_capacity, vec_len};
-ghost use Rattle.mig_base.specs.Count.{HasCause, RisesBy};
+ghost use Rattle.std.specs.Prelude.{◌≡◌, ◌<◌, ◌≤◌, ◌↔◌, Some, [], Contains, IfOk, IsErr, IsFalse, IsTrue, OnOk, is_err, length, option_map, slice_index_or, vec_capacity, vec_len};
+ghost use Rattle.mig_base.specs.Count.{RisesBy};
 ghost use Rattle.mig_base.specs.Memory.{next_number};
-ghost use Rattle.mig_medium.specs.Memory.{told, with_step, zero_blocks};
+ghost use Rattle.mig_medium.specs.Memory.{IsMemoryCall, no_moves, state_of, told, with_step, zero_blocks};
+ghost use Rattle.nvm_model.specs.Medium.{got, sent};
 ghost use Rattle.nvm_model.specs.declared.trace.Step.TheVariants.{Get, Put, Mark};
 
 use crate::Medium;
@@ -95,19 +96,11 @@ impl MemMedium {
 }
 
 impl Medium for MemMedium {
-    ghost blocks = { λ m. Some m.blocks };
-
-    ghost trace = { λ m. m.trace };
-
-    ghost faults = { λ m. m.faults };
-
-    ghost size = { λ m. length m.blocks };
-
     ghost Inside = { Unit {0} };
 
-    ghost inside = { λ _. tt };
+    ghost state = { λ m. state_of m };
 
-    ghost moves = { λ _ _ _ _. Unit {0} };
+    ghost moves = { λ old step failed new. no_moves old step failed new };
 
     fn len(&self) -> u32 {
         self.blocks.len() as u32
@@ -115,8 +108,7 @@ impl Medium for MemMedium {
 
     fn get(&mut self, b: u32, out: &mut [u8; 512]) -> Result<(), Failed>
         requires { b < length self.old.blocks }
-        ensures read { OnOk result (out.new ≡ slice_index_or self.old.blocks b []) }
-        ensures cause { HasCause self.old.faults self.new.faults result }
+        ensures call { IsMemoryCall self.old (got b out.new result) self.new }
 
         // It fails at the listed calls, and at no other.
         ensures failed { IsErr result ↔ Contains self.old.gets (next_number self.old.gets_made) }
@@ -137,9 +129,7 @@ impl Medium for MemMedium {
 
     fn put(&mut self, b: u32, from: &[u8; 512]) -> Result<(), Failed>
         requires { b < length self.old.blocks }
-        ensures put { OnOk result (self.new.blocks ≡ slice_set self.old.blocks b from.now) }
-        ensures kept { OnErr result (self.new.blocks ≡ self.old.blocks) }
-        ensures cause { HasCause self.old.faults self.new.faults result }
+        ensures call { IsMemoryCall self.old (sent b from.now (is_err result)) self.new }
 
         // It fails at the listed calls, and at no other.
         ensures failed { IsErr result ↔ Contains self.old.puts (next_number self.old.puts_made) }

@@ -1,6 +1,4 @@
-pub mod BlockLemmas
 pub mod CallLemmas
-pub mod DoneLemmas
-pub mod MediaLemmas
+pub mod NamespaceLaws
 pub mod NamespaceLemmas
 pub mod ShelvesLemmas

@@ -1,10 +1,11 @@
 use Rattle.std.specs.List.{All}
-use Rattle.std.proofs.Common.{◌≡◌, ℕ, ◌-◌, ◌*◌, ◌<◌, ◌≤◌, List, [], ◌∷◌, ◌++◌, Option, length, map, replicate, reverse, get_or, refl, sym, ap, subst, ◌∙◌, arith}
+use Rattle.std.proofs.Common.{◌≡◌, ℕ, ◌-◌, ◌*◌, ◌<◌, ◌≤◌, List, [], ◌∷◌, ◌++◌, length, map, replicate, reverse, get_or, refl, sym, ap, subst, ◌∙◌, arith}
 use Rattle.std.proofs.lemmas.List.{get_or-map, get_or-reverse, length-map, length-reverse}
 use Rattle.std.proofs.lemmas.List.Elements.{All-head, All-tail}
 use Rattle.nvm_model.specs.declared.piece.ShelfEntry.{ShelfEntry}
 use Rattle.nvm_blocks.specs.ShelfState.{ShelfState}
-use Rattle.nvm_blocks.specs.Namespace.{IsShelf, IsNamespace, IsSameButDone}
+use Rattle.nvm_model.specs.Medium.{MediumState}
+use Rattle.nvm_blocks.specs.Namespace.{IsShelf, IsNamespace}
 use Rattle.nvm_blocks.specs.Shelves.{AreNew, cleared}
 
 all_same : {X Y : Type 0} (f : X → Y) (e : Y) (xs : List X) → All (λ (x : X). f x ≡ e) xs → map f xs ≡ replicate (length xs) e
@@ -21,38 +22,44 @@ made_count {M} media left shelves all none =
     ∙ ap (λ (l : List M). length (l ++ map (λ (s : ShelfState M). s.medium) (reverse shelves))) none
     ∙ length-map (reverse shelves) (λ (s : ShelfState M). s.medium) ∙ length-reverse shelves
 
-new_at : {M : Type 0} (blocks : M → Option (List (List ℕ))) (size : M → ℕ) (shelf room count : ℕ) (shelves : List (ShelfState M)) → AreNew blocks size shelf room count shelves →
+new_at : {M I : Type 0} (state : M → MediumState I) (shelf room count : ℕ) (shelves : List (ShelfState M)) → AreNew state shelf room count shelves →
     (i : ℕ) (d : ShelfState M) → i < length (reverse shelves) → ((get_or (reverse shelves) i d).entries ≡ []) × ((get_or (reverse shelves) i d).room ≡ room)
-new_at {M} blocks size shelf room count shelves h i d l =
+new_at {M} state shelf room count shelves h i d l =
     let there : i < length shelves = omega (arith, l, length-reverse shelves) in
     let here = h (length shelves - 1 - i) d (omega (arith, there)) in
     subst (λ (s : ShelfState M). (s.entries ≡ []) × (s.room ≡ room)) (sym (get_or-reverse shelves i d there)) (here.1, here.2)
 
-pub new_entries : {M : Type 0} (blocks : M → Option (List (List ℕ))) (size : M → ℕ) (shelf room count : ℕ) (shelves : List (ShelfState M)) → AreNew blocks size shelf room count shelves →
+pub new_entries : {M I : Type 0} (state : M → MediumState I) (shelf room count : ℕ) (shelves : List (ShelfState M)) → AreNew state shelf room count shelves →
     count ≡ length shelves → map (λ (s : ShelfState M). s.entries) (reverse shelves) ≡ replicate count []
-new_entries {M} blocks size shelf room count shelves h is =
-    all_same (λ (s : ShelfState M). s.entries) [] (reverse shelves) (λ i d l. (new_at blocks size shelf room count shelves h i d l).0)
+new_entries {M} state shelf room count shelves h is =
+    all_same (λ (s : ShelfState M). s.entries) [] (reverse shelves) (λ i d l. (new_at state shelf room count shelves h i d l).0)
     ∙ ap (λ (n : ℕ). replicate n []) (length-reverse shelves ∙ sym is)
 
-pub new_rooms : {M : Type 0} (blocks : M → Option (List (List ℕ))) (size : M → ℕ) (shelf room count : ℕ) (shelves : List (ShelfState M)) → AreNew blocks size shelf room count shelves →
+pub new_rooms : {M I : Type 0} (state : M → MediumState I) (shelf room count : ℕ) (shelves : List (ShelfState M)) → AreNew state shelf room count shelves →
     count ≡ length shelves → map (λ (s : ShelfState M). s.room) (reverse shelves) ≡ replicate count room
-new_rooms {M} blocks size shelf room count shelves h is =
-    all_same (λ (s : ShelfState M). s.room) room (reverse shelves) (λ i d l. (new_at blocks size shelf room count shelves h i d l).1)
+new_rooms {M} state shelf room count shelves h is =
+    all_same (λ (s : ShelfState M). s.room) room (reverse shelves) (λ i d l. (new_at state shelf room count shelves h i d l).1)
     ∙ ap (λ (n : ℕ). replicate n room) (length-reverse shelves ∙ sym is)
 
 -- Shelves without their entries.
 
-pub cleared_same : {M Y : Type 0} (f : ShelfState M → Y) → ((s : ShelfState M) → f (cleared s) ≡ f s) → (shelves : List (ShelfState M)) → map f (map cleared shelves) ≡ map f shelves
+cleared_same : {M Y : Type 0} (f : ShelfState M → Y) → ((s : ShelfState M) → f (cleared s) ≡ f s) → (shelves : List (ShelfState M)) → map f (map cleared shelves) ≡ map f shelves
 cleared_same f same [] = refl
 cleared_same {M} {Y} f same (s ∷ rest) = ap (λ (y : Y). y ∷ map f (map cleared rest)) (same s) ∙ ap (λ (l : List Y). f s ∷ l) (cleared_same f same rest)
+
+pub cleared_media : {M : Type 0} (shelves : List (ShelfState M)) → map (λ (s : ShelfState M). s.medium) (map cleared shelves) ≡ map (λ (s : ShelfState M). s.medium) shelves
+cleared_media {M} shelves = cleared_same (λ (s : ShelfState M). s.medium) (λ s. refl) shelves
+
+pub cleared_rooms : {M : Type 0} (shelves : List (ShelfState M)) → map (λ (s : ShelfState M). s.room) (map cleared shelves) ≡ map (λ (s : ShelfState M). s.room) shelves
+cleared_rooms {M} shelves = cleared_same (λ (s : ShelfState M). s.room) (λ s. refl) shelves
 
 pub cleared_entries : {M : Type 0} (shelves : List (ShelfState M)) → map (λ (s : ShelfState M). s.entries) (map cleared shelves) ≡ replicate (length shelves) []
 cleared_entries [] = refl
 cleared_entries {M} (s ∷ rest) = ap (λ (l : List (List ShelfEntry)). [] ∷ l) (cleared_entries rest)
 
-pub cleared_namespace : {M : Type 0} (blocks : M → Option (List (List ℕ))) (size : M → ℕ) (shelf : ℕ) (shelves : List (ShelfState M)) →
-    IsNamespace blocks size shelf shelves → IsNamespace blocks size shelf (map cleared shelves)
-cleared_namespace {M} blocks size shelf shelves h =
+pub cleared_namespace : {M I : Type 0} (state : M → MediumState I) (shelf : ℕ) (shelves : List (ShelfState M)) →
+    IsNamespace state shelf shelves → IsNamespace state shelf (map cleared shelves)
+cleared_namespace {M} state shelf shelves h =
     let same : length (map cleared shelves) ≡ length shelves = length-map shelves cleared in
     record {
       large = h.large;
@@ -61,15 +68,7 @@ cleared_namespace {M} blocks size shelf shelves h =
       each = λ i d l. each i d (omega (arith, l, same));
     }
   where
-    each : (i : ℕ) (d : ShelfState M) → i < length shelves → IsShelf blocks size shelf i (get_or (map cleared shelves) i d)
+    each : (i : ℕ) (d : ShelfState M) → i < length shelves → IsShelf state shelf i (get_or (map cleared shelves) i d)
     each i d l =
-        let here : IsShelf blocks size shelf i (get_or shelves i d) = h.each i d l in
-        subst (IsShelf blocks size shelf i) (sym (get_or-map cleared shelves i d d l)) (record { first = here.first; size_is = here.size_is; told = here.told })
-
-pub cleared_but_done : {M : Type 0} (size : M → ℕ) (shelf : ℕ) (shelves : List (ShelfState M)) → IsSameButDone size (record { shelves = shelves; shelf = shelf }) (record { shelves = map cleared shelves; shelf = shelf })
-cleared_but_done {M} size shelf shelves = record {
-  shelf = refl;
-  count = length-map shelves cleared;
-  rooms = cleared_same (λ (s : ShelfState M). s.room) (λ s. refl) shelves;
-  sizes = ap (map size) (cleared_same (λ (s : ShelfState M). s.medium) (λ s. refl) shelves);
-}
+        let here : IsShelf state shelf i (get_or shelves i d) = h.each i d l in
+        subst (IsShelf state shelf i) (sym (get_or-map cleared shelves i d d l)) (record { first = here.first; size = here.size })

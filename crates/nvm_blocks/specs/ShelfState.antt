@@ -1,4 +1,4 @@
-use Rattle.std.specs.Prelude.{◌≡◌, ℕ, List}
+use Rattle.std.specs.Prelude.{ℕ, List}
 use Rattle.nvm_model.specs.declared.piece.ShelfEntry.{ShelfEntry}
 
 -- A shelf: its medium, the number of its first block in the namespace, the pieces that were done on it since it was
@@ -8,9 +8,3 @@ pub record ShelfState (M : Type 0) : Type 0 where
   pub first : ℕ
   pub entries : List ShelfEntry
   pub room : ℕ
-
--- nothing but the medium may have changed
-pub record IsSameButMedium {M : Type 0} (shelf new : ShelfState M) : Type 0 where
-  pub first : new.first ≡ shelf.first
-  pub entries : new.entries ≡ shelf.entries
-  pub room : new.room ≡ shelf.room

@@ -44,7 +44,8 @@ pub(crate) fn data_block<'a>(piece: &Piece, window: &'a Window, i: u32) -> &'a [
 /// Writes a block that was read to its place in the guest's pages.
 pub(crate) fn keep_block(piece: &Piece, window: &mut Window, i: u32, block: &[u8; 512])
     requires { HasPage piece.now.pages (length (data_pages window.old)) (piece.now.at + i) }
-    ensures memory { data_pages window.new ≡ with_bytes (data_pages window.old) (page_of piece.now.pages (piece.now.at + i)) (place_of (piece.now.at + i)) block.now }
+    ensures memory { let j = piece.now.at + i in data_pages window.new
+        ≡ with_bytes (data_pages window.old) (page_of piece.now.pages j) (place_of j) block.now }
     ensures window { IsSameButData window.old window.new }
 {
     let page = page_number(piece, window, i);

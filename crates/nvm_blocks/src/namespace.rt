@@ -1,12 +1,10 @@
-ghost use Rattle.std.specs.Prelude.{◌≡◌, ◌+◌, ◌-◌, ◌*◌, ◌/◌, ◌<◌, ◌≤◌, [], ◌++◌, IfErr, IfOk, IfSome, IsTrue, OnErr, OnOk, All, length, map, replicate, slice_index_or, vec_capacity, vec_len};
-ghost use Rattle.mig_base.specs.Count.{HaveCause, NeverFall, RiseBy};
-ghost use Rattle.mig_medium.specs.Medium.{with_block};
-ghost use Rattle.nvm_model.specs.History.{is_faulted};
-ghost use Rattle.nvm_model.specs.Piece.{block_at};
-ghost use Rattle.nvm_values.specs.declared.op.Op.TheVariants.{Flush, Read};
+ghost use Rattle.std.specs.Prelude.{◌≡◌, ◌*◌, ◌/◌, ◌%◌, ◌<◌, ◌≤◌, [], ◌∷◌, IfErr, IfOk, IfSome, All, is_err, length, map, replicate};
+ghost use Rattle.nvm_values.specs.declared.op.Op.TheVariants.{Read};
+ghost use Rattle.nvm_model.specs.Medium.{got, sent};
 ghost use Rattle.guest_ram.specs.Window.{data_pages};
-ghost use Rattle.nvm_blocks.specs.Namespace.{IsSameButDone, block_count, entries_of, media_of, rooms_of, told_of, with_entry};
-ghost use Rattle.nvm_blocks.specs.Work.{HasPages, HasToldEffect, IsSameButData, IsStop};
+ghost use Rattle.nvm_blocks.specs.Namespace.{HasAppliedIn, HasCalled, HasRoom, block_call, IsForNamespace, block_count, entries_of, media_of, rooms_of, told_of, with_entry};
+ghost use Rattle.nvm_blocks.specs.Shelves.{cleared};
+ghost use Rattle.nvm_blocks.specs.Work.{IsSameButData};
 
 mod shelves;
 
@@ -37,7 +35,8 @@ impl<M: Medium> Model for Namespace<M> {
 
     ghost view = { λ n. record { shelves = n.shelves.items; shelf = n.shelf } };
 
-    ghost invariant = { λ n. IsNamespace M.blocks M.size n.shelf n.shelves.items × (n.spare.items ≡ []) × (length n.shelves.items ≤ vec_capacity n.spare) };
+    ghost invariant = { λ n. IsNamespace M.state n.shelf n.shelves.items
+        × (n.spare.items ≡ []) × (length n.shelves.items ≤ vec_capacity n.spare) };
 }
 
 impl<M: Medium> Namespace<M> {
@@ -56,7 +55,7 @@ impl<M: Medium> Namespace<M> {
         requires large { 1 ≤ shelf }
         requires some { 1 ≤ length media.items }
         requires few { length media.items * shelf ≤ 131072 }
-        requires sizes { All (λ m. M.size m ≡ shelf) media.items }
+        requires sizes { All (λ m. (M.state m).size ≡ shelf) media.items }
         ensures media { IfOk result (λ n. media_of n ≡ media.items) }
         ensures shelf { IfOk result (λ n. n.shelf ≡ shelf) }
         ensures entries { IfOk result (λ n. entries_of n ≡ replicate (length media.items) []) }
@@ -83,7 +82,7 @@ impl<M: Medium> Namespace<M> {
     /// The number of blocks.
     pub fn len(&self) -> u32
         ensures value { result ≡ block_count self.now }
-        ensures told { IfSome (told_of M.blocks self.now) (λ blocks. length blocks ≡ result) }
+        ensures told { IfSome (told_of M.state self.now) (λ blocks. length blocks ≡ result) }
     {
         self.shelves.len() as u32 * self.shelf
     }
@@ -92,25 +91,14 @@ impl<M: Medium> Namespace<M> {
     /// has the pages that its blocks need. The piece stops at the first call of the medium that fails and, for a
     /// Compare, at the first block that differs. Its entry, for which its shelf has room, says how it ended.
     pub fn apply(&mut self, p: &Piece, index: u32, ticket: u64, w: &mut Window) -> PieceResult
-        requires op { p.now.op ≡ Flush → ⊥ }
-        requires some { 1 ≤ p.now.span.count }
-        requires few { p.now.span.count ≤ 64 }
-        requires within { p.now.span.first + p.now.span.count ≤ block_count self.old }
-        requires one_shelf { p.now.span.first / self.old.shelf ≡ (p.now.span.first + p.now.span.count - 1) / self.old.shelf }
-        requires pages { HasPages p.now (length (data_pages w.old)) }
-        requires room { length (slice_index_or (entries_of self.old) (p.now.span.first / self.old.shelf) [])
-            < slice_index_or (rooms_of self.old) (p.now.span.first / self.old.shelf) 0 }
-
-        ensures effect { HasToldEffect p.now p.now.span.first result
-            (told_of M.blocks self.old) (data_pages w.old) (told_of M.blocks self.new) (data_pages w.new) }
-        ensures stops { IsStop p.now.op p.now.span.count result.outcome }
+        requires piece { IsForNamespace self.old (length (data_pages w.old)) p.now }
+        requires room { HasRoom self.old (p.now.span.first / self.old.shelf) }
+        ensures applied { HasAppliedIn M.state M.moves p.now result
+            self.old (data_pages w.old) self.new (data_pages w.new) }
+        ensures entry { entries_of self.new ≡ with_entry (p.now.span.first / self.old.shelf)
+            (record { lane = p.now.lane; index = index; ticket = ticket; result = result }) (entries_of self.old) }
         ensures window { IsSameButData w.old w.new }
         ensures kept { (p.now.op ≡ Read → ⊥) → w.new ≡ w.old }
-        ensures entry { entries_of self.new
-            ≡ with_entry (p.now.span.first / self.old.shelf) (record { lane = p.now.lane; index = index; ticket = ticket; result = result }) (entries_of self.old) }
-        ensures rest { IsSameButDone M.size self.old self.new }
-        ensures later { NeverFall (map M.faults (media_of self.old)) (map M.faults (media_of self.new)) }
-        ensures cause { IsTrue (is_faulted result.outcome) → RiseBy 1 (map M.faults (media_of self.old)) (map M.faults (media_of self.new)) }
     {
         let shelf = &mut self.shelves[(p.span.first / self.shelf) as usize];
         let result = shelf.apply(p, index, ticket, w);
@@ -124,17 +112,12 @@ impl<M: Medium> Namespace<M> {
     /// `Failed` only where a count of faults rose. What `out` holds then isn't known.
     pub fn copy_out(&mut self, b: u32, out: &mut [u8; 512]) -> Result<(), Failed>
         requires { b < block_count self.old }
-        ensures read { OnOk result (IfSome (told_of M.blocks self.old) (λ blocks. out.new ≡ block_at blocks b)) }
-        ensures same_blocks { told_of M.blocks self.new ≡ told_of M.blocks self.old }
-        ensures rest { IsSameButDone M.size self.old self.new }
+        ensures called { HasCalled M.state M.moves self.old
+            (block_call self.old b (λ place. got place out.new result) ∷ []) self.new }
         ensures entries { entries_of self.new ≡ entries_of self.old }
-        ensures cause { HaveCause (map M.faults (media_of self.old)) (map M.faults (media_of self.new)) result }
     {
         let shelf = &mut self.shelves[(b / self.shelf) as usize];
-        match shelf.copy_out(b, out) {
-            Ok(()) => Ok(()),
-            Err(Failed) => Err(Failed),
-        }
+        shelf.copy_out(b, out)
     }
 
     /// Writes block `b`, and no other.
@@ -144,24 +127,17 @@ impl<M: Medium> Namespace<M> {
     /// `Failed` only where a count of faults rose. Every block is then as before.
     pub fn put(&mut self, b: u32, from: &[u8; 512]) -> Result<(), Failed>
         requires { b < block_count self.old }
-        ensures put { OnOk result (told_of M.blocks self.new ≡ with_block b from.now (told_of M.blocks self.old)) }
-        ensures kept { OnErr result (told_of M.blocks self.new ≡ told_of M.blocks self.old) }
-        ensures rest { IsSameButDone M.size self.old self.new }
+        ensures called { HasCalled M.state M.moves self.old
+            (block_call self.old b (λ place. sent place from.now (is_err result)) ∷ []) self.new }
         ensures entries { entries_of self.new ≡ entries_of self.old }
-        ensures cause { HaveCause (map M.faults (media_of self.old)) (map M.faults (media_of self.new)) result }
     {
         let shelf = &mut self.shelves[(b / self.shelf) as usize];
-        match shelf.put(b, from) {
-            Ok(()) => Ok(()),
-            Err(Failed) => Err(Failed),
-        }
+        shelf.put(b, from)
     }
 
     /// Drops the entries of all shelves.
     pub fn clear(&mut self)
-        ensures entries { entries_of self.new ≡ replicate (length self.old.shelves) [] }
-        ensures media { media_of self.new ≡ media_of self.old }
-        ensures rest { IsSameButDone M.size self.old self.new }
+        ensures { self.new ≡ record self.old { shelves = map cleared self.old.shelves } }
     {
         clear_all(&mut self.shelves);
     }

@@ -1,17 +1,9 @@
-ghost use Rattle.std.specs.Prelude.{◌≡◌, ◌+◌, ◌-◌, ◌<◌, ◌≤◌, [], ◌++◌, ◌∷◌, IfSome, IsTrue, OnErr, OnOk, is_err, length};
+ghost use Rattle.std.specs.Prelude.{◌≡◌, ◌+◌, ◌-◌, ◌<◌, ◌≤◌, [], ◌++◌, ◌∷◌, OnErr, OnOk, is_err, length};
 ghost use Rattle.std.specs.Borrow.{Lends, sem};
-ghost use Rattle.mig_base.specs.Count.{HasCause, RisesBy};
-ghost use Rattle.mig_medium.specs.Calls.{MovesAll, TracesAll};
-ghost use Rattle.mig_medium.specs.Medium.{with_block, Traces};
-ghost use Rattle.nvm_model.specs.declared.trace.Step.TheVariants.{Get, Put};
-ghost use Rattle.nvm_model.specs.History.{is_faulted};
-ghost use Rattle.nvm_model.specs.Piece.{block_at};
-ghost use Rattle.nvm_model.specs.Shelf.{LiesIn};
-ghost use Rattle.nvm_model.specs.Trace.{calls_of, steps_of};
-ghost use Rattle.nvm_values.specs.declared.op.Op.TheVariants.{Flush, Read};
+ghost use Rattle.nvm_model.specs.Medium.{IsMade, got, sent};
+ghost use Rattle.nvm_values.specs.declared.op.Op.TheVariants.{Read};
 ghost use Rattle.guest_ram.specs.Window.{data_pages};
-ghost use Rattle.nvm_blocks.specs.ShelfState.{IsSameButMedium};
-ghost use Rattle.nvm_blocks.specs.Work.{HasPages, HasToldEffect, IsSameButData, IsStop};
+ghost use Rattle.nvm_blocks.specs.Work.{HasApplied, IsForShelf, IsSameButData};
 
 use crate::work::do_piece;
 use guest_ram::Window;
@@ -69,31 +61,17 @@ impl<M: Medium> Shelf<M> {
     /// has the pages that its blocks need. The piece stops at the first call of the medium that fails and, for a
     /// Compare, at the first block that differs. Its entry, for which there is room, says how it ended.
     pub fn apply(&mut self, p: &Piece, index: u32, ticket: u64, w: &mut Window) -> PieceResult
-        requires op { p.now.op ≡ Flush → ⊥ }
-        requires some { 1 ≤ p.now.span.count }
-        requires few { p.now.span.count ≤ 64 }
-        requires within { LiesIn self.old.first (M.size self.old.medium) p.now.span }
-        requires pages { HasPages p.now (length (data_pages w.old)) }
+        requires piece { IsForShelf self.old.first (M.state self.old.medium).size (length (data_pages w.old)) p.now }
         requires room { length self.old.entries < self.old.room }
-
-        ensures effect { HasToldEffect p.now (p.now.span.first - self.old.first) result
-            (M.blocks self.old.medium) (data_pages w.old) (M.blocks self.new.medium) (data_pages w.new) }
-        ensures stops { IsStop p.now.op p.now.span.count result.outcome }
+        ensures applied { HasApplied M.state M.moves p.now (p.now.span.first - self.old.first) result
+            self.old.medium (data_pages w.old) self.new.medium (data_pages w.new) }
+        ensures rest { self.new ≡ record self.old {
+          medium = self.new.medium;
+          entries = self.old.entries
+              ++ record { lane = p.now.lane; index = index; ticket = ticket; result = result } ∷ [];
+        } }
         ensures window { IsSameButData w.old w.new }
         ensures kept { (p.now.op ≡ Read → ⊥) → w.new ≡ w.old }
-        ensures entry { self.new.entries
-            ≡ self.old.entries ++ record { lane = p.now.lane; index = index; ticket = ticket; result = result } ∷ [] }
-        ensures first { self.new.first ≡ self.old.first }
-        ensures same_room { self.new.room ≡ self.old.room }
-        ensures same_size { M.size self.new.medium ≡ M.size self.old.medium }
-
-        // One call of the medium for each block, up to and with the one at which the piece stopped.
-        ensures traced { TracesAll (M.trace self.old.medium)
-            (steps_of (calls_of p.now.op (p.now.span.first - self.old.first) p.now.span.count result.outcome)) (M.trace self.new.medium) }
-        ensures moved { MovesAll M.moves (M.inside self.old.medium)
-            (calls_of p.now.op (p.now.span.first - self.old.first) p.now.span.count result.outcome) (M.inside self.new.medium) }
-        ensures later { M.faults self.old.medium ≤ M.faults self.new.medium }
-        ensures cause { IsTrue (is_faulted result.outcome) → RisesBy 1 (M.faults self.old.medium) (M.faults self.new.medium) }
     {
         let size = self.medium.len();
         prove!(p.span.count <= size);
@@ -114,20 +92,12 @@ impl<M: Medium> Shelf<M> {
     /// `Failed` only where the medium's count of faults rose. What `out` holds then isn't known.
     pub fn copy_out(&mut self, b: u32, out: &mut [u8; 512]) -> Result<(), Failed>
         requires from { self.old.first ≤ b }
-        requires within { b < self.old.first + M.size self.old.medium }
-
-        ensures read { OnOk result (IfSome (M.blocks self.old.medium) (λ blocks. out.new ≡ block_at blocks (b - self.old.first))) }
-        ensures same_blocks { M.blocks self.new.medium ≡ M.blocks self.old.medium }
-        ensures rest { IsSameButMedium self.old self.new }
-        ensures same_size { M.size self.new.medium ≡ M.size self.old.medium }
-        ensures traced { Traces (M.trace self.old.medium) (Get (b - self.old.first)) (M.trace self.new.medium) }
-        ensures moved { M.moves (M.inside self.old.medium) (Get (b - self.old.first)) (is_err result) (M.inside self.new.medium) }
-        ensures cause { HasCause (M.faults self.old.medium) (M.faults self.new.medium) result }
+        requires within { b < self.old.first + (M.state self.old.medium).size }
+        ensures call { IsMade M.state M.moves self.old.medium
+            (got (b - self.old.first) out.new result) self.new.medium }
+        ensures rest { self.new ≡ record self.old { medium = self.new.medium } }
     {
-        match self.medium.get(b - self.first, out) {
-            Ok(()) => Ok(()),
-            Err(Failed) => Err(Failed),
-        }
+        self.medium.get(b - self.first, out)
     }
 
     /// Writes block `b` of the namespace, which lies in the shelf, and no other.
@@ -137,20 +107,12 @@ impl<M: Medium> Shelf<M> {
     /// `Failed` only where the medium's count of faults rose. Every block is then as before.
     pub fn put(&mut self, b: u32, from: &[u8; 512]) -> Result<(), Failed>
         requires from { self.old.first ≤ b }
-        requires within { b < self.old.first + M.size self.old.medium }
-
-        ensures put { OnOk result (M.blocks self.new.medium ≡ with_block (b - self.old.first) from.now (M.blocks self.old.medium)) }
-        ensures kept { OnErr result (M.blocks self.new.medium ≡ M.blocks self.old.medium) }
-        ensures rest { IsSameButMedium self.old self.new }
-        ensures same_size { M.size self.new.medium ≡ M.size self.old.medium }
-        ensures traced { Traces (M.trace self.old.medium) (Put (b - self.old.first)) (M.trace self.new.medium) }
-        ensures moved { M.moves (M.inside self.old.medium) (Put (b - self.old.first)) (is_err result) (M.inside self.new.medium) }
-        ensures cause { HasCause (M.faults self.old.medium) (M.faults self.new.medium) result }
+        requires within { b < self.old.first + (M.state self.old.medium).size }
+        ensures call { IsMade M.state M.moves self.old.medium
+            (sent (b - self.old.first) from.now (is_err result)) self.new.medium }
+        ensures rest { self.new ≡ record self.old { medium = self.new.medium } }
     {
-        match self.medium.put(b - self.first, from) {
-            Ok(()) => Ok(()),
-            Err(Failed) => Err(Failed),
-        }
+        self.medium.put(b - self.first, from)
     }
 
     /// The entries, in the order in which their pieces were done.

@@ -1,14 +1,8 @@
 // A piece's work: its blocks go between the medium and the guest's pages, one at a time and ascending.
-ghost use Rattle.std.specs.Prelude.{◌≡◌, ◌+◌, ◌^◌, ◌<◌, ◌≤◌, ℕ, IfSome, length};
+ghost use Rattle.std.specs.Prelude.{◌≡◌, ◌+◌, ◌<◌, ℕ, List, length};
 ghost use Rattle.nvm_values.specs.declared.op.Op.TheVariants.{Write, Read, Compare, WriteZeroes, Verify, Flush};
-ghost use Rattle.nvm_model.specs.Memory.{zero_block};
-ghost use Rattle.nvm_model.specs.Piece.{ComparesTo, data_block, done_blocks, read_blocks, bytes_of};
-ghost use Rattle.nvm_model.specs.Shelf.{no_digest};
-ghost use Rattle.nvm_model.specs.Trace.{calls_of};
-ghost use Rattle.mig_medium.specs.Calls.{HasMade};
 ghost use Rattle.guest_ram.specs.Window.{data_pages};
-ghost use Rattle.sha2.specs.Sha256.{sha256};
-ghost use Rattle.nvm_blocks.specs.Work.{HasPage, HasPages, IsStop, IsSameButData, HasToldEffect, IsSized, put_told, EqualsAt};
+ghost use Rattle.nvm_blocks.specs.Work.{HasApplied, HasBlocks, HasDataPages, HasPages, IsSameButData, plain};
 
 use crate::block::{data_block, digest_more, keep_block, zero_block};
 use guest_ram::Window;
@@ -20,15 +14,11 @@ use sha2::{Digest, Sha256};
 
 /// Puts the piece's data.
 fn write<M: Medium>(piece: &Piece, first: u32, window: &Window, medium: &mut M) -> Outcome
-    requires within { first + piece.now.span.count ≤ M.size medium.old }
-    requires numbered { M.size medium.old < 2 ^ 32 }
-    requires pages { (i : ℕ) → i < piece.now.span.count → HasPage piece.now.pages (length (data_pages window.now)) (piece.now.at + i) }
-    ensures put { M.blocks medium.new ≡ put_told (λ i. data_block (data_pages window.now) piece.now.pages (piece.now.at + i))
-        first (done_blocks piece.now.span.count result) (M.blocks medium.old) }
-    ensures stops { IsStop Write piece.now.span.count result }
-    ensures same_size { M.size medium.new ≡ M.size medium.old }
-    ensures made { HasMade M.moves (M.trace medium.old) (M.inside medium.old) (M.faults medium.old)
-        (calls_of Write first piece.now.span.count result) (M.trace medium.new) (M.inside medium.new) (M.faults medium.new) }
+    requires op { piece.now.op ≡ Write }
+    requires blocks { HasBlocks first piece.now.span.count (M.state medium.old) }
+    requires pages { HasDataPages piece.now (length (data_pages window.now)) }
+    ensures { HasApplied M.state M.moves piece.now first (plain result)
+        medium.old (data_pages window.now) medium.new (data_pages window.now) }
 {
     let mut block = [0; 512];
     for i in 0..piece.span.count {
@@ -41,16 +31,12 @@ fn write<M: Medium>(piece: &Piece, first: u32, window: &Window, medium: &mut M) 
     Outcome::Done
 }
 
-/// Puts zeroes.
+/// Puts zeroes. The guest's pages have no part in it.
 fn write_zeroes<M: Medium>(piece: &Piece, first: u32, medium: &mut M) -> Outcome
-    requires within { first + piece.now.span.count ≤ M.size medium.old }
-    requires numbered { M.size medium.old < 2 ^ 32 }
-    ensures put { M.blocks medium.new ≡ put_told (λ _. zero_block)
-        first (done_blocks piece.now.span.count result) (M.blocks medium.old) }
-    ensures stops { IsStop WriteZeroes piece.now.span.count result }
-    ensures same_size { M.size medium.new ≡ M.size medium.old }
-    ensures made { HasMade M.moves (M.trace medium.old) (M.inside medium.old) (M.faults medium.old)
-        (calls_of WriteZeroes first piece.now.span.count result) (M.trace medium.new) (M.inside medium.new) (M.faults medium.new) }
+    requires op { piece.now.op ≡ WriteZeroes }
+    requires blocks { HasBlocks first piece.now.span.count (M.state medium.old) }
+    ensures { (memory : List (List ℕ)) → HasApplied M.state M.moves piece.now first (plain result)
+        medium.old memory medium.new memory }
 {
     let zeroes = zero_block();
     for i in 0..piece.span.count {
@@ -62,15 +48,12 @@ fn write_zeroes<M: Medium>(piece: &Piece, first: u32, medium: &mut M) -> Outcome
     Outcome::Done
 }
 
-/// Gets every block and keeps none.
+/// Gets every block and keeps none. The guest's pages have no part in it.
 fn verify<M: Medium>(piece: &Piece, first: u32, medium: &mut M) -> Outcome
-    requires within { first + piece.now.span.count ≤ M.size medium.old }
-    requires numbered { M.size medium.old < 2 ^ 32 }
-    ensures same_blocks { M.blocks medium.new ≡ M.blocks medium.old }
-    ensures stops { IsStop Verify piece.now.span.count result }
-    ensures same_size { M.size medium.new ≡ M.size medium.old }
-    ensures made { HasMade M.moves (M.trace medium.old) (M.inside medium.old) (M.faults medium.old)
-        (calls_of Verify first piece.now.span.count result) (M.trace medium.new) (M.inside medium.new) (M.faults medium.new) }
+    requires op { piece.now.op ≡ Verify }
+    requires blocks { HasBlocks first piece.now.span.count (M.state medium.old) }
+    ensures { (memory : List (List ℕ)) → HasApplied M.state M.moves piece.now first (plain result)
+        medium.old memory medium.new memory }
 {
     let mut block = [0; 512];
     for i in 0..piece.span.count {
@@ -84,15 +67,11 @@ fn verify<M: Medium>(piece: &Piece, first: u32, medium: &mut M) -> Outcome
 
 /// Gets every block, and compares it with the piece's data.
 fn compare<M: Medium>(piece: &Piece, first: u32, window: &Window, medium: &mut M) -> Outcome
-    requires within { first + piece.now.span.count ≤ M.size medium.old }
-    requires numbered { M.size medium.old < 2 ^ 32 }
-    requires pages { (i : ℕ) → i < piece.now.span.count → HasPage piece.now.pages (length (data_pages window.now)) (piece.now.at + i) }
-    ensures same_blocks { M.blocks medium.new ≡ M.blocks medium.old }
-    ensures outcome { IfSome (M.blocks medium.old) (λ blocks. ComparesTo (EqualsAt piece.now first blocks (data_pages window.now)) piece.now.span.count result) }
-    ensures stops { IsStop Compare piece.now.span.count result }
-    ensures same_size { M.size medium.new ≡ M.size medium.old }
-    ensures made { HasMade M.moves (M.trace medium.old) (M.inside medium.old) (M.faults medium.old)
-        (calls_of Compare first piece.now.span.count result) (M.trace medium.new) (M.inside medium.new) (M.faults medium.new) }
+    requires op { piece.now.op ≡ Compare }
+    requires blocks { HasBlocks first piece.now.span.count (M.state medium.old) }
+    requires pages { HasDataPages piece.now (length (data_pages window.now)) }
+    ensures { HasApplied M.state M.moves piece.now first (plain result)
+        medium.old (data_pages window.now) medium.new (data_pages window.now) }
 {
     let mut block = [0; 512];
     for i in 0..piece.span.count {
@@ -114,19 +93,12 @@ fn read<M: Medium>(
     window: &mut Window,
     medium: &mut M,
 ) -> (Outcome, [u8; 32])
-    requires within { first + piece.now.span.count ≤ M.size medium.old }
-    requires numbered { M.size medium.old < 2 ^ 32 }
-    requires sized { IsSized (M.blocks medium.old) (M.size medium.old) }
-    requires pages { (i : ℕ) → i < piece.now.span.count → HasPage piece.now.pages (length (data_pages window.old)) (piece.now.at + i) }
-    ensures memory { IfSome (M.blocks medium.old) (λ blocks. data_pages window.new
-        ≡ read_blocks blocks piece.now.pages first piece.now.at (done_blocks piece.now.span.count result.0) (data_pages window.old)) }
-    ensures digest { IfSome (M.blocks medium.old) (λ blocks. result.1 ≡ sha256 (bytes_of first (done_blocks piece.now.span.count result.0) blocks)) }
+    requires op { piece.now.op ≡ Read }
+    requires blocks { HasBlocks first piece.now.span.count (M.state medium.old) }
+    requires pages { HasDataPages piece.now (length (data_pages window.old)) }
+    ensures applied { HasApplied M.state M.moves piece.now first (record { outcome = result.0; digest = result.1 })
+        medium.old (data_pages window.old) medium.new (data_pages window.new) }
     ensures window { IsSameButData window.old window.new }
-    ensures same_blocks { M.blocks medium.new ≡ M.blocks medium.old }
-    ensures stops { IsStop Read piece.now.span.count result.0 }
-    ensures same_size { M.size medium.new ≡ M.size medium.old }
-    ensures made { HasMade M.moves (M.trace medium.old) (M.inside medium.old) (M.faults medium.old)
-        (calls_of Read first piece.now.span.count result.0) (M.trace medium.new) (M.inside medium.new) (M.faults medium.new) }
 {
     let mut hasher = Sha256::new();
     let mut block = [0; 512];
@@ -150,17 +122,12 @@ pub(crate) fn do_piece<M: Medium>(
     medium: &mut M,
 ) -> PieceResult
     requires op { piece.now.op ≡ Flush → ⊥ }
-    requires within { first + piece.now.span.count ≤ M.size medium.old }
-    requires numbered { M.size medium.old < 2 ^ 32 }
-    requires sized { IsSized (M.blocks medium.old) (M.size medium.old) }
+    requires blocks { HasBlocks first piece.now.span.count (M.state medium.old) }
     requires pages { HasPages piece.now (length (data_pages window.old)) }
-    ensures effect { HasToldEffect piece.now first result (M.blocks medium.old) (data_pages window.old) (M.blocks medium.new) (data_pages window.new) }
-    ensures stops { IsStop piece.now.op piece.now.span.count result.outcome }
+    ensures applied { HasApplied M.state M.moves piece.now first result
+        medium.old (data_pages window.old) medium.new (data_pages window.new) }
     ensures window { IsSameButData window.old window.new }
     ensures kept { (piece.now.op ≡ Read → ⊥) → window.new ≡ window.old }
-    ensures same_size { M.size medium.new ≡ M.size medium.old }
-    ensures made { HasMade M.moves (M.trace medium.old) (M.inside medium.old) (M.faults medium.old)
-        (calls_of piece.now.op first piece.now.span.count result.outcome) (M.trace medium.new) (M.inside medium.new) (M.faults medium.new) }
 {
     match piece.op {
         Op::Flush => unreachable!(),
@@ -175,9 +142,10 @@ pub(crate) fn do_piece<M: Medium>(
     }
 }
 
+/// The result of a piece that reads nothing.
 #[tactic(auto, unfolding(nvm_model::specs::Shelf::no_digest))]
 fn plain(outcome: Outcome) -> PieceResult
-    ensures { result ≡ record { outcome = outcome; digest = no_digest } }
+    ensures { result ≡ plain outcome }
 {
     PieceResult {
         outcome,

@@ -1,3 +1,6 @@
 pub mod PlaceLemmas
 pub mod CellLemmas
+pub mod ChainLemmas
+pub mod PieceLemmas
 pub mod ShelfLemmas
+pub mod MediaLemmas

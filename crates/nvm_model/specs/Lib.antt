@@ -2,8 +2,10 @@ pub mod Memory
 pub mod World
 pub mod Check
 pub mod Piece
-pub mod Trace
 pub mod Shelf
+pub mod Chain
+pub mod Medium
+pub mod Trace
 pub mod Event
 pub mod History
 pub mod Text

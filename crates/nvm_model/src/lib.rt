@@ -11,7 +11,7 @@ mod trace;
 
 pub use command::{Command, Completion, Outcome, Pages, Work};
 pub use line::Line;
-pub use piece::{Piece, PieceResult, ShelfEntry, piece_is_local};
+pub use piece::{Piece, PieceResult, ShelfEntry, piece_calls_have_effect, piece_is_local};
 pub use ring::RingState;
 pub use script::{Act, Acts, Head, LaneSet, Script};
 pub use trace::Step;

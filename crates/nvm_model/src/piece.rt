@@ -1,4 +1,5 @@
 ghost use Rattle.nvm_model.specs.Shelf.{PieceIsLocal};
+ghost use Rattle.nvm_model.specs.Trace.{PieceCallsHaveEffect};
 
 use crate::{Outcome, Pages};
 use mig_base::{LaneNo, Span};
@@ -35,4 +36,9 @@ pub struct ShelfEntry {
 /// A law: what a piece does to the blocks of its shelf, it does to the whole namespace, and no other shelf changes.
 pub fn piece_is_local()
     ensures { PieceIsLocal }
+{}
+
+/// A law: where a piece's calls were made on blocks, it had the effect that the model gives it.
+pub fn piece_calls_have_effect()
+    ensures { PieceCallsHaveEffect }
 {}

@@ -1,3 +1,4 @@
+use Rattle.std.specs.Option.{IfSome}
 use Rattle.std.proofs.Common.{◌≡◌, ℕ, ◌+◌, ◌-◌, ◌<◌, ◌≤◌, List, [], ◌∷◌, ◌++◌, Option, Some, None, length, map, sum, take, drop, get_or, slice_set, refl, sym, ap, subst, ◌∙◌, arith}
 use Rattle.std.proofs.lemmas.List.{take_more, take_more_set, take_all, length-append, length-map, length-take-le, ext_get_or, get_or-take, get_or-map as get_or_map}
 use Rattle.std.proofs.lemmas.List.Concat.{length-flat_map}
@@ -9,6 +10,8 @@ use Rattle.guest_ram.specs.Window.{WindowState, no_window}
 use Rattle.nvm_model.specs.declared.script.Script.{Script}
 use Rattle.nvm_model.specs.declared.script.LaneSet.{LaneSet}
 use Rattle.nvm_model.specs.History.{faults_shown}
+use Rattle.nvm_model.specs.Medium.{StayTold}
+use Rattle.nvm_model.specs.Piece.{block_at}
 use Rattle.nvm_model.specs.ScriptText.{IsHead}
 use Rattle.nvm_model.specs.World.{window_pages}
 use Rattle.session.specs.Lanes.{HaveWindows, IsWindowOf}
@@ -29,6 +32,13 @@ pub none_copied : (from to : Option (List (List ℕ))) → AreCopied 0 from to t
 none_copied None to = tt
 none_copied (Some from) None = tt
 none_copied (Some from) (Some to) = refl
+
+-- the block that was read is the one that was written
+pub copies_block : (b : ℕ) (block : List ℕ) (from to new_to : Option (List (List ℕ))) → IfSome from (λ blocks. block ≡ block_at blocks b) → StayTold (λ x y. y ≡ slice_set x b block) to new_to → CopiesBlock b from to new_to
+copies_block b block None to new_to read put = tt
+copies_block b block (Some from) None new_to read put = tt
+copies_block b block (Some from) (Some to) None read put = absurd put
+copies_block b block (Some from) (Some to) (Some new_to) read put = ap (λ (bs : List (List ℕ)). Some bs) (put ∙ ap (λ (x : List ℕ). slice_set to b x) read)
 
 pub block_copied : (n size room : ℕ) (from old_to to new_to : Option (List (List ℕ))) → n < size → n < room → IsSized from size → IsSized to room → AreCopied n from old_to to → CopiesBlock n from to new_to → AreCopied (n + 1) from old_to new_to
 block_copied n size room None old_to to new_to there has_room from_sized to_sized before copies = tt

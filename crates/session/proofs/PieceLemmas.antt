@@ -5,12 +5,14 @@ use Rattle.nvm_values.specs.Op.{moves_data}
 use Rattle.nvm_model.specs.declared.script.Head.{Head}
 use Rattle.nvm_model.specs.Check.{pages_needed}
 use Rattle.nvm_model.specs.Piece.{page_of}
-use Rattle.nvm_blocks.specs.Namespace.{NamespaceState, block_count, entries_of, rooms_of}
+use Rattle.nvm_model.specs.declared.piece.Piece.{Piece}
+use Rattle.nvm_blocks.specs.Namespace.{IsForNamespace, NamespaceState, block_count, entries_of, rooms_of}
 use Rattle.nvm_blocks.specs.ShelfState.{ShelfState}
 use Rattle.nvm_blocks.specs.Work.{HasPages}
 use Rattle.nvm_cmd.specs.Cut.{IsPartOf, piece_of}
 use Rattle.nvm_cmd.specs.declared.job.Job.{Job}
 use Rattle.session.specs.Shelves.{IsNamespaceOf}
+use Rattle.session.specs.Work.{IsPartFor}
 
 -- What a piece of a command needs of its window and of the namespace's shelves, and what it leaves there.
 
@@ -36,3 +38,14 @@ entry_fits {M} head n b is large inside few =
     let count : length (rooms_of n) ≡ length n.shelves = length-map n.shelves (λ (s : ShelfState M). s.room) in
     let room = is.rooms (b / n.shelf) 0 (omega (arith, there, count)) in
     omega (arith, room, few (b / n.shelf))
+
+-- a part of a command is a piece for the script's namespace
+pub for_namespace : {M : Type 0} {head : Head} {n : NamespaceState M} {pages : ℕ} {p : Piece} → IsPartFor head pages p → IsNamespaceOf head n → IsForNamespace n pages p
+for_namespace part is = record {
+  op = part.op;
+  some = part.some;
+  few = part.few;
+  within = omega (arith, part.within, is.blocks);
+  one_shelf = rw is.shelf part.one_shelf;
+  has_pages = part.has_pages;
+}

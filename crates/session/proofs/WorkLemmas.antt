@@ -1,11 +1,10 @@
-use Rattle.std.proofs.Common.{◌≡◌, ℕ, zero, suc, ◌+◌, ◌-◌, ◌*◌, ◌<◌, ◌≤◌, ⊎_elim, IsTrue, List, [], ◌∷◌, ◌++◌, Option, Some, None, All, length, map, sum, take, drop, get_or, replicate, slice_get, slice_index_or, slice_set, refl, sym, ap, subst, ◌∙◌, arith}
+use Rattle.std.proofs.Common.{◌≡◌, ℕ, zero, suc, ◌+◌, ◌-◌, ◌*◌, ◌<◌, ◌≤◌, ⊎_elim, List, [], ◌∷◌, ◌++◌, Option, Some, None, All, length, cond, map, sum, take, drop, get_or, replicate, slice_get, slice_index_or, slice_set, refl, sym, ap, subst, ◌∙◌, arith}
 use Rattle.std.proofs.lemmas.Bool.{cases_eq}
 use Rattle.std.proofs.lemmas.List.{length-map, length-set, map-append, get_or-map, get_or-take, get_or-set_same, get_or-set_other, ext_get_or}
 use Rattle.std.proofs.lemmas.List.Elements.{All-head, All-tail}
 use Rattle.std.proofs.lemmas.List.Sums.{sum_by-cons}
 use Rattle.std.specs.List.{AllByRecursion}
 use Rattle.mig_base.specs.Count.{NeverFall, RiseBy}
-use Rattle.mig_base.proofs.CountLemmas.{rise_if}
 use Rattle.nvm_values.specs.declared.op.Op.{Op}
 use Rattle.nvm_values.specs.declared.op.Op.TheVariants.{Flush, Write, Read, Compare, WriteZeroes, Verify}
 use Rattle.nvm_model.specs.declared.command.Command.{Command}
@@ -25,7 +24,8 @@ use Rattle.nvm_model.specs.Ring.{IsCqPage, IsSqRing}
 use Rattle.nvm_model.specs.Shelf.{HasEffect, digest_bytes, joined}
 use Rattle.nvm_model.specs.Turn.{left_in}
 use Rattle.nvm_model.specs.World.{Lane, new_lane, set_of}
-use Rattle.nvm_blocks.specs.Namespace.{NamespaceState, media_of, told_of}
+use Rattle.nvm_model.specs.Medium.{MediumState, faults_in, told_in}
+use Rattle.nvm_blocks.specs.Namespace.{NamespaceState, faults_of, media_of, told_of}
 use Rattle.nvm_blocks.specs.Work.{HasToldEffect, IsSameButData}
 use Rattle.nvm_cmd.specs.Answer.{job_of}
 use Rattle.nvm_cmd.specs.Cut.{piece_of}
@@ -249,9 +249,9 @@ pub piece_works : {s : Script} {session new : Session} {windows : List WindowSta
     slice_index_or windows place no_window ≡ window → IsSameButData window new_window →
     IsNext (place + 1) s.head.shelf s.head.blocks (set_of s.head (place + 1)).pages (pair_of session.controller (place + 1)).commands (outcomes_of run.results.items) piece →
     HasToldEffect piece piece.span.first result told (data_pages window) new_told (data_pages new_window) →
-    NeverFall faults new_faults → (IsTrue (is_faulted result.outcome) → RiseBy 1 faults new_faults) → StandsFor s session windows lanes →
+    NeverFall faults new_faults → RiseBy (cond (is_faulted result.outcome) 1 0) faults new_faults → StandsFor s session windows lanes →
     WorksOne s (place + 1) told faults lanes new_told new_faults new (slice_set windows place new_window) events new_events
-piece_works {s} {session} {new} {windows} {lanes} place run window piece result new_window told faults new_told new_faults events new_events events_are low count controller others has run_is window_is same next done later cause is =
+piece_works {s} {session} {new} {windows} {lanes} place run window piece result new_window told faults new_told new_faults events new_events events_are low count controller others has run_is window_is same next done later causes is =
     let lane = slice_index_or lanes place (new_lane 0) in
     let pair = pair_of session.controller (place + 1) in
     let stood : Stands s (place + 1) run pair window lane =
@@ -261,7 +261,6 @@ piece_works {s} {session} {new} {windows} {lanes} place run window piece result 
     let stands = λ (d : LaneRun). lane_stands s (place + 1) run (slice_index_or new.lanes.items place d) pair window new_window lane result
     (subst (λ (r : LaneRun). HasResult r result (slice_index_or new.lanes.items place d)) (run_is d) (has d)) same stood in
     let number : piece.lane ≡ place + 1 = ap (λ (p : Piece). p.lane) next.piece_is in
-    let causes = rise_if (is_faulted result.outcome) faults new_faults later cause in
     record {
       new = slice_set lanes place after;
       event = piece_event piece result;
@@ -395,8 +394,8 @@ none_in_empty X (suc m) zero = refl
 none_in_empty X (suc m) (suc i) = none_in_empty X m i
 
 -- a piece of the media of one namespace is one of the same media in another
-pub still_works : {M : Type 0} (blocks : M → Option (List (List ℕ))) (count : M → ℕ) (n same : NamespaceState M) {s : Script} {k : ℕ} {lanes : List Lane} {new_told : Option (List (List ℕ))} {new_faults : List ℕ} {session : Session} {windows : List WindowState} {events new_events : List Line} →
-    media_of n ≡ media_of same → WorksOne s k (told_of blocks n) (map count (media_of n)) lanes new_told new_faults session windows events new_events →
-    WorksOne s k (told_of blocks same) (map count (media_of same)) lanes new_told new_faults session windows events new_events
-still_works {M} blocks count n same {s} {k} {lanes} {new_told} {new_faults} {session} {windows} {events} {new_events} is works =
-    subst (λ (media : List M). WorksOne s k (joined (map blocks media)) (map count media) lanes new_told new_faults session windows events new_events) is works
+pub still_works : {M I : Type 0} (state : M → MediumState I) (n same : NamespaceState M) {s : Script} {k : ℕ} {lanes : List Lane} {new_told : Option (List (List ℕ))} {new_faults : List ℕ} {session : Session} {windows : List WindowState} {events new_events : List Line} →
+    media_of n ≡ media_of same → WorksOne s k (told_of state n) (faults_of state n) lanes new_told new_faults session windows events new_events →
+    WorksOne s k (told_of state same) (faults_of state same) lanes new_told new_faults session windows events new_events
+still_works {M} state n same {s} {k} {lanes} {new_told} {new_faults} {session} {windows} {events} {new_events} is works =
+    subst (λ (media : List M). WorksOne s k (joined (told_in state media)) (faults_in state media) lanes new_told new_faults session windows events new_events) is works

@@ -1,5 +1,5 @@
 // The cutover of a suspended move: while nothing runs, every block and every window page goes to the destination.
-ghost use Rattle.std.specs.Prelude.{◌≡◌, ◌+◌, ◌<◌, ◌≤◌, ◌++◌, ◌∷◌, [], IfOk, OnErr, OnOk, length, map};
+ghost use Rattle.std.specs.Prelude.{◌≡◌, ◌+◌, ◌<◌, ◌++◌, IfOk, OnErr, OnOk};
 ghost use Rattle.mig_base.specs.Count.{HasCause, NeverFall, RiseBy};
 ghost use Rattle.mig_base.specs.Stream.{IsCut, with_more};
 ghost use Rattle.nvm_model.specs.Text.{text_of};
@@ -8,7 +8,7 @@ ghost use Rattle.session.specs.Run.{HasMoved, HasStoppedMoving, ending_lines};
 ghost use Rattle.session.specs.Side.{AreCopied, CopiesBlock, IfMoved, OneRose};
 ghost use Rattle.session.specs.Lanes.{HaveWindows};
 ghost use Rattle.nvm_model.specs.ScriptText.{IsHead};
-ghost use Rattle.nvm_blocks.specs.Namespace.{block_count, media_of, told_of};
+ghost use Rattle.nvm_blocks.specs.Namespace.{block_count, faults_of, told_of};
 ghost use Rattle.session.specs.Shelves.{IsNamespaceOf, SameShelves};
 
 use crate::Ending;
@@ -40,17 +40,17 @@ pub(crate) fn migrate<K: Sink, M: Medium>(
     requires from_namespace { IsNamespaceOf script.now.head from.old }
     requires to_namespace { IsNamespaceOf script.now.head to.old }
 
-    ensures moved { IfOk result (λ ending. HasMoved script.now ending (map M.faults (media_of from.old)) (map M.faults (media_of to.old)) (K.bytes output.old)
-        (map M.faults (media_of from.new)) (map M.faults (media_of to.new)) (K.bytes output.new)) }
-    ensures stopped { OnErr result (HasStoppedMoving script.now (AreCopied script.now.head.blocks (told_of M.blocks from.old) (told_of M.blocks to.old) (told_of M.blocks to.new)) (map M.faults (media_of from.old)) (map M.faults (media_of to.old)) (K.bytes output.old)
-        (map M.faults (media_of from.new)) (map M.faults (media_of to.new)) (K.bytes output.new)) }
-    ensures blocks { IfOk result (λ ending. IfMoved ending (AreCopied script.now.head.blocks (told_of M.blocks from.old) (told_of M.blocks to.old) (told_of M.blocks to.new))) }
+    ensures moved { IfOk result (λ ending. HasMoved script.now ending (faults_of M.state from.old) (faults_of M.state to.old) (K.bytes output.old)
+        (faults_of M.state from.new) (faults_of M.state to.new) (K.bytes output.new)) }
+    ensures stopped { OnErr result (HasStoppedMoving script.now (AreCopied script.now.head.blocks (told_of M.state from.old) (told_of M.state to.old) (told_of M.state to.new)) (faults_of M.state from.old) (faults_of M.state to.old) (K.bytes output.old)
+        (faults_of M.state from.new) (faults_of M.state to.new) (K.bytes output.new)) }
+    ensures blocks { IfOk result (λ ending. IfMoved ending (AreCopied script.now.head.blocks (told_of M.state from.old) (told_of M.state to.old) (told_of M.state to.new))) }
     ensures memory { IfOk result (λ ending. IfMoved ending (to_ram.new ≡ from_ram.now)) }
-    ensures same_blocks { told_of M.blocks from.new ≡ told_of M.blocks from.old }
+    ensures same_blocks { told_of M.state from.new ≡ told_of M.state from.old }
     ensures from_namespace { SameShelves from.old from.new }
     ensures to_namespace { SameShelves to.old to.new }
     ensures to_memory { HaveWindows script.now to_ram.new }
-    ensures later { (NeverFall (map M.faults (media_of from.old)) (map M.faults (media_of from.new))) × (NeverFall (map M.faults (media_of to.old)) (map M.faults (media_of to.new))) }
+    ensures later { (NeverFall (faults_of M.state from.old) (faults_of M.state from.new)) × (NeverFall (faults_of M.state to.old) (faults_of M.state to.new)) }
     ensures cause { HasCause (K.faults output.old) (K.faults output.new) result }
 {
     match write_lines(&[Line::Migrate, Line::Suspend], buf, output) {
@@ -95,14 +95,14 @@ fn copy_all<M: Medium>(
 ) -> Ending
     requires shapes { shape to_ram.old ≡ shape from_ram.now }
     requires sizes { block_count to.old ≡ block_count from.old }
-    ensures blocks { IfMoved result (AreCopied (block_count from.old) (told_of M.blocks from.old) (told_of M.blocks to.old) (told_of M.blocks to.new)) }
+    ensures blocks { IfMoved result (AreCopied (block_count from.old) (told_of M.state from.old) (told_of M.state to.old) (told_of M.state to.new)) }
     ensures memory { IfMoved result (to_ram.new ≡ from_ram.now) }
     ensures shapes { shape to_ram.new ≡ shape to_ram.old }
-    ensures same_blocks { told_of M.blocks from.new ≡ told_of M.blocks from.old }
+    ensures same_blocks { told_of M.state from.new ≡ told_of M.state from.old }
     ensures from_namespace { SameShelves from.old from.new }
     ensures to_namespace { SameShelves to.old to.new }
-    ensures rose { OneRose result (map M.faults (media_of from.old)) (map M.faults (media_of to.old)) (map M.faults (media_of from.new)) (map M.faults (media_of to.new)) }
-    ensures later { (NeverFall (map M.faults (media_of from.old)) (map M.faults (media_of from.new))) × (NeverFall (map M.faults (media_of to.old)) (map M.faults (media_of to.new))) }
+    ensures rose { OneRose result (faults_of M.state from.old) (faults_of M.state to.old) (faults_of M.state from.new) (faults_of M.state to.new) }
+    ensures later { (NeverFall (faults_of M.state from.old) (faults_of M.state from.new)) × (NeverFall (faults_of M.state to.old) (faults_of M.state to.new)) }
 {
     match copy_blocks(from, to) {
         Ok(()) => {
@@ -120,12 +120,12 @@ fn copy_all<M: Medium>(
 /// `Failed` only where the count of faults of one of the media rose.
 fn copy_blocks<M: Medium>(from: &mut Namespace<M>, to: &mut Namespace<M>) -> Result<(), Failed>
     requires sizes { block_count to.old ≡ block_count from.old }
-    ensures copied { OnOk result (AreCopied (block_count from.old) (told_of M.blocks from.old) (told_of M.blocks to.old) (told_of M.blocks to.new)) }
-    ensures same_blocks { told_of M.blocks from.new ≡ told_of M.blocks from.old }
+    ensures copied { OnOk result (AreCopied (block_count from.old) (told_of M.state from.old) (told_of M.state to.old) (told_of M.state to.new)) }
+    ensures same_blocks { told_of M.state from.new ≡ told_of M.state from.old }
     ensures from_namespace { SameShelves from.old from.new }
     ensures to_namespace { SameShelves to.old to.new }
-    ensures rose { OnErr result (RiseBy 1 (map M.faults (media_of from.old) ++ map M.faults (media_of to.old)) (map M.faults (media_of from.new) ++ map M.faults (media_of to.new))) }
-    ensures later { (NeverFall (map M.faults (media_of from.old)) (map M.faults (media_of from.new))) × (NeverFall (map M.faults (media_of to.old)) (map M.faults (media_of to.new))) }
+    ensures rose { OnErr result (RiseBy 1 (faults_of M.state from.old ++ faults_of M.state to.old) (faults_of M.state from.new ++ faults_of M.state to.new)) }
+    ensures later { (NeverFall (faults_of M.state from.old) (faults_of M.state from.new)) × (NeverFall (faults_of M.state to.old) (faults_of M.state to.new)) }
 {
     let mut block = [0u8; 512];
     for b in 0..from.len() {
@@ -151,13 +151,13 @@ fn copy_block<M: Medium>(
     to: &mut Namespace<M>,
 ) -> Result<(), Failed>
     requires there { (b < block_count from.old) × (b < block_count to.old) }
-    ensures copied { OnOk result (CopiesBlock b (told_of M.blocks from.old) (told_of M.blocks to.old) (told_of M.blocks to.new)) }
-    ensures kept { OnErr result (told_of M.blocks to.new ≡ told_of M.blocks to.old) }
-    ensures same_blocks { told_of M.blocks from.new ≡ told_of M.blocks from.old }
+    ensures copied { OnOk result (CopiesBlock b (told_of M.state from.old) (told_of M.state to.old) (told_of M.state to.new)) }
+    ensures kept { OnErr result (told_of M.state to.new ≡ told_of M.state to.old) }
+    ensures same_blocks { told_of M.state from.new ≡ told_of M.state from.old }
     ensures from_namespace { SameShelves from.old from.new }
     ensures to_namespace { SameShelves to.old to.new }
-    ensures rose { OnErr result (RiseBy 1 (map M.faults (media_of from.old) ++ map M.faults (media_of to.old)) (map M.faults (media_of from.new) ++ map M.faults (media_of to.new))) }
-    ensures later { (NeverFall (map M.faults (media_of from.old)) (map M.faults (media_of from.new))) × (NeverFall (map M.faults (media_of to.old)) (map M.faults (media_of to.new))) }
+    ensures rose { OnErr result (RiseBy 1 (faults_of M.state from.old ++ faults_of M.state to.old) (faults_of M.state from.new ++ faults_of M.state to.new)) }
+    ensures later { (NeverFall (faults_of M.state from.old) (faults_of M.state from.new)) × (NeverFall (faults_of M.state to.old) (faults_of M.state to.new)) }
 {
     match from.copy_out(b, block) {
         Ok(()) => {}

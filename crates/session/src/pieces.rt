@@ -1,15 +1,11 @@
 // The pieces of a turn on one thread.
-ghost use Rattle.std.specs.Prelude.{◌≡◌, ◌+◌, ◌-◌, ◌*◌, ◌/◌, ◌<◌, ◌≤◌, ℕ, List, [], All, IsTrue, length, map, slice_index_or, sum, vec_len, vec_capacity};
-ghost use Rattle.mig_base.specs.Count.{NeverFall, RiseBy};
+ghost use Rattle.std.specs.Prelude.{◌≡◌, ◌+◌, ◌-◌, ◌*◌, ◌/◌, ◌<◌, ◌≤◌, ℕ, List, [], All, length, slice_index_or, sum, vec_len, vec_capacity};
 ghost use Rattle.nvm_values.specs.declared.op.Op.TheVariants.{Flush};
 ghost use Rattle.nvm_model.specs.declared.line.Line.TheVariants as line;
 ghost use Rattle.nvm_model.specs.declared.piece.Piece.{Piece as ThePiece};
-ghost use Rattle.nvm_model.specs.History.{is_faulted};
 ghost use Rattle.nvm_model.specs.ScriptText.{IsHead};
 ghost use Rattle.nvm_model.specs.World.{Lane};
-ghost use Rattle.nvm_blocks.specs.Namespace.{IsSameButDone, block_count, entries_of, media_of, rooms_of, told_of};
-ghost use Rattle.nvm_blocks.specs.Work.{HasPages, HasToldEffect, IsSameButData};
-ghost use Rattle.guest_ram.specs.Window.{data_pages};
+ghost use Rattle.nvm_blocks.specs.Namespace.{faults_of, told_of};
 ghost use Rattle.hall.specs.Plan.{pieces_of};
 ghost use Rattle.session.specs.declared.lane_run.LaneRun.{LaneRun};
 ghost use Rattle.session.specs.Lanes.{AreFinished, ArePlanned, HasWords, HaveWindows, IsSession, StandsFor, WorksTo};
@@ -40,8 +36,8 @@ pub(crate) fn do_pieces<M: Medium>(
     requires room { vec_len session.old.events + 4096 * script.now.head.lanes ≤ vec_capacity session.old.events }
 
     ensures works { (n : ℕ) (lanes : List Lane) → HasWords script.now n session.old.order → StandsFor script.now session.old windows.old lanes
-        → WorksTo script.now n (told_of M.blocks namespace.old) (map M.faults (media_of namespace.old)) lanes
-        (told_of M.blocks namespace.new) (map M.faults (media_of namespace.new)) session.new windows.new session.old.events.items session.new.events.items }
+        → WorksTo script.now n (told_of M.state namespace.old) (faults_of M.state namespace.old) lanes
+        (told_of M.state namespace.new) (faults_of M.state namespace.new) session.new windows.new session.old.events.items session.new.events.items }
     ensures finished { (lanes : List Lane) → StandsFor script.now session.new windows.new lanes → AreFinished script.now lanes }
     ensures session { IsSession script.now session.new }
     ensures planned { ArePlanned script.now session.new }
@@ -87,8 +83,8 @@ fn do_left<M: Medium>(
     requires room { vec_len session.old.events + sum left.old ≤ vec_capacity session.old.events }
 
     ensures works { (n : ℕ) (lanes : List Lane) → HasWords script.now n session.old.order → StandsFor script.now session.old windows.old lanes
-        → WorksTo script.now n (told_of M.blocks namespace.old) (map M.faults (media_of namespace.old)) lanes
-        (told_of M.blocks namespace.new) (map M.faults (media_of namespace.new)) session.new windows.new session.old.events.items session.new.events.items }
+        → WorksTo script.now n (told_of M.state namespace.old) (faults_of M.state namespace.old) lanes
+        (told_of M.state namespace.new) (faults_of M.state namespace.new) session.new windows.new session.old.events.items session.new.events.items }
     ensures left { AreLeft script.now session.new left.new }
     ensures none { All (λ (n : ℕ). n ≡ 0) left.new }
     ensures session { IsSession script.now session.new }
@@ -121,8 +117,8 @@ fn do_piece<M: Medium>(
     requires room { vec_len session.old.events < vec_capacity session.old.events }
 
     ensures works { (lanes : List Lane) → StandsFor script.now session.old windows.old lanes
-        → WorksOne script.now (place + 1) (told_of M.blocks namespace.old) (map M.faults (media_of namespace.old)) lanes
-        (told_of M.blocks namespace.new) (map M.faults (media_of namespace.new)) session.new windows.new session.old.events.items session.new.events.items }
+        → WorksOne script.now (place + 1) (told_of M.state namespace.old) (faults_of M.state namespace.old) lanes
+        (told_of M.state namespace.new) (faults_of M.state namespace.new) session.new windows.new session.old.events.items session.new.events.items }
     ensures done { (d : LaneRun) → length (slice_index_or session.new.lanes.items place d).results.items ≡ length (slice_index_or session.old.lanes.items place d).results.items + 1 }
     ensures others { (i : ℕ) (d : LaneRun) → (i ≡ place → ⊥) → slice_index_or session.new.lanes.items i d ≡ slice_index_or session.old.lanes.items i d }
     ensures session { IsSession script.now session.new }

@@ -1,12 +1,12 @@
 // A whole run on one thread: turns until all lanes are complete, with at most one move between two turns, between the
 // first lines and the last.
-ghost use Rattle.std.specs.Prelude.{◌≡◌, ◌<◌, ◌≤◌, ◌∷◌, [], ℕ, List, Some, None, OnErr, OnOk, IfOk, map, take};
+ghost use Rattle.std.specs.Prelude.{◌≡◌, ◌<◌, ◌≤◌, ℕ, List, Some, None, OnErr, OnOk, IfOk, map, take};
 ghost use Rattle.mig_base.specs.Count.{HasCause};
 ghost use Rattle.mig_base.specs.Stream.{IsCut, with_more};
 ghost use Rattle.nvm_model.specs.ScriptText.{IsScript};
 ghost use Rattle.nvm_model.specs.Text.{text_of};
 ghost use Rattle.nvm_model.specs.World.{Lane};
-ghost use Rattle.nvm_blocks.specs.Namespace.{media_of, told_of};
+ghost use Rattle.nvm_blocks.specs.Namespace.{faults_of, told_of};
 ghost use Rattle.guest_ram.specs.Ram.{windows_made};
 ghost use Rattle.guest_ram.specs.Window.{WindowState};
 ghost use Rattle.session.specs.Lanes.{CanStand, HasWords, HaveWindows, IsBetween, IsNewSession, IsSession, StandsFor, start_lanes};
@@ -48,14 +48,14 @@ pub fn run<K: Sink, M: Medium>(
     requires from_namespace { IsNamespaceOf script.now.head from.old }
     requires to_namespace { IsNamespaceOf script.now.head to.old }
 
-    ensures run { IfOk result (λ ending. IfTold (told_of M.blocks from.old) (told_of M.blocks to.old) (HasRun script.now
-        ending (map M.faults (media_of from.old)) (map M.faults (media_of to.old)) (K.bytes output.old)
-        (told_of M.blocks from.new) (map (λ (w : WindowState). w.pages) from_ram.new) (told_of M.blocks to.new) (map (λ (w : WindowState). w.pages) to_ram.new)
-        (map M.faults (media_of from.new)) (map M.faults (media_of to.new)) (K.bytes output.new))) }
-    ensures stopped { OnErr result (IfTold (told_of M.blocks from.old) (told_of M.blocks to.old) (HasStopped script.now
-        (map M.faults (media_of from.old)) (map M.faults (media_of to.old)) (K.bytes output.old)
-        (told_of M.blocks to.old) (told_of M.blocks from.new) (told_of M.blocks to.new)
-        (map M.faults (media_of from.new)) (map M.faults (media_of to.new)) (K.bytes output.new))) }
+    ensures run { IfOk result (λ ending. IfTold (told_of M.state from.old) (told_of M.state to.old) (HasRun script.now
+        ending (faults_of M.state from.old) (faults_of M.state to.old) (K.bytes output.old)
+        (told_of M.state from.new) (map (λ (w : WindowState). w.pages) from_ram.new) (told_of M.state to.new) (map (λ (w : WindowState). w.pages) to_ram.new)
+        (faults_of M.state from.new) (faults_of M.state to.new) (K.bytes output.new))) }
+    ensures stopped { OnErr result (IfTold (told_of M.state from.old) (told_of M.state to.old) (HasStopped script.now
+        (faults_of M.state from.old) (faults_of M.state to.old) (K.bytes output.old)
+        (told_of M.state to.old) (told_of M.state from.new) (told_of M.state to.new)
+        (faults_of M.state from.new) (faults_of M.state to.new) (K.bytes output.new))) }
     ensures cause { HasCause (K.faults output.old) (K.faults output.new) result }
 {
     let mut buf = LineBuf::new();
@@ -96,14 +96,14 @@ fn run_body<K: Sink, M: Medium>(
     requires from_namespace { IsNamespaceOf script.now.head from.old }
     requires to_namespace { IsNamespaceOf script.now.head to.old }
 
-    ensures run { IfOk result (λ ending. IfTold (told_of M.blocks from.old) (told_of M.blocks to.old) (HasRunBody script.now
-        ending (map M.faults (media_of from.old)) (map M.faults (media_of to.old)) (K.bytes output.old)
-        (told_of M.blocks from.new) (map (λ (w : WindowState). w.pages) from_ram.new) (told_of M.blocks to.new) (map (λ (w : WindowState). w.pages) to_ram.new)
-        (map M.faults (media_of from.new)) (map M.faults (media_of to.new)) (K.bytes output.new))) }
-    ensures stopped { OnErr result (IfTold (told_of M.blocks from.old) (told_of M.blocks to.old) (HasStoppedBody script.now
-        (map M.faults (media_of from.old)) (map M.faults (media_of to.old)) (K.bytes output.old)
-        (told_of M.blocks from.new) (told_of M.blocks to.new)
-        (map M.faults (media_of from.new)) (map M.faults (media_of to.new)) (K.bytes output.new))) }
+    ensures run { IfOk result (λ ending. IfTold (told_of M.state from.old) (told_of M.state to.old) (HasRunBody script.now
+        ending (faults_of M.state from.old) (faults_of M.state to.old) (K.bytes output.old)
+        (told_of M.state from.new) (map (λ (w : WindowState). w.pages) from_ram.new) (told_of M.state to.new) (map (λ (w : WindowState). w.pages) to_ram.new)
+        (faults_of M.state from.new) (faults_of M.state to.new) (K.bytes output.new))) }
+    ensures stopped { OnErr result (IfTold (told_of M.state from.old) (told_of M.state to.old) (HasStoppedBody script.now
+        (faults_of M.state from.old) (faults_of M.state to.old) (K.bytes output.old)
+        (told_of M.state from.new) (told_of M.state to.new)
+        (faults_of M.state from.new) (faults_of M.state to.new) (K.bytes output.new))) }
     ensures cause { HasCause (K.faults output.old) (K.faults output.new) result }
 {
     match script.head.migrate {
@@ -141,14 +141,14 @@ fn run_moving<K: Sink, M: Medium>(
     requires from_namespace { IsNamespaceOf script.now.head from.old }
     requires to_namespace { IsNamespaceOf script.now.head to.old }
 
-    ensures run { IfOk result (λ ending. IfTold (told_of M.blocks from.old) (told_of M.blocks to.old) (HasRunBody script.now
-        ending (map M.faults (media_of from.old)) (map M.faults (media_of to.old)) (K.bytes output.old)
-        (told_of M.blocks from.new) (map (λ (w : WindowState). w.pages) from_ram.new) (told_of M.blocks to.new) (map (λ (w : WindowState). w.pages) to_ram.new)
-        (map M.faults (media_of from.new)) (map M.faults (media_of to.new)) (K.bytes output.new))) }
-    ensures stopped { OnErr result (IfTold (told_of M.blocks from.old) (told_of M.blocks to.old) (HasStoppedBody script.now
-        (map M.faults (media_of from.old)) (map M.faults (media_of to.old)) (K.bytes output.old)
-        (told_of M.blocks from.new) (told_of M.blocks to.new)
-        (map M.faults (media_of from.new)) (map M.faults (media_of to.new)) (K.bytes output.new))) }
+    ensures run { IfOk result (λ ending. IfTold (told_of M.state from.old) (told_of M.state to.old) (HasRunBody script.now
+        ending (faults_of M.state from.old) (faults_of M.state to.old) (K.bytes output.old)
+        (told_of M.state from.new) (map (λ (w : WindowState). w.pages) from_ram.new) (told_of M.state to.new) (map (λ (w : WindowState). w.pages) to_ram.new)
+        (faults_of M.state from.new) (faults_of M.state to.new) (K.bytes output.new))) }
+    ensures stopped { OnErr result (IfTold (told_of M.state from.old) (told_of M.state to.old) (HasStoppedBody script.now
+        (faults_of M.state from.old) (faults_of M.state to.old) (K.bytes output.old)
+        (told_of M.state from.new) (told_of M.state to.new)
+        (faults_of M.state from.new) (faults_of M.state to.new) (K.bytes output.new))) }
     ensures cause { HasCause (K.faults output.old) (K.faults output.new) result }
 {
     match run_turns_before(script, session, turn, from_ram, from, buf, output) {
@@ -192,11 +192,11 @@ fn run_turns_before<K: Sink, M: Medium>(
     requires namespace { IsNamespaceOf script.now.head namespace.old }
 
     ensures turned { OnOk result ((n : ℕ) (lanes : List Lane) → HasWords script.now n session.old.order → StandsFor script.now session.old ram.old lanes
-        → TurnedBefore script.now turn n (told_of M.blocks namespace.old) (map M.faults (media_of namespace.old)) lanes (K.bytes output.old)
-        (told_of M.blocks namespace.new) (map M.faults (media_of namespace.new)) session.new ram.new (K.bytes output.new)) }
+        → TurnedBefore script.now turn n (told_of M.state namespace.old) (faults_of M.state namespace.old) lanes (K.bytes output.old)
+        (told_of M.state namespace.new) (faults_of M.state namespace.new) session.new ram.new (K.bytes output.new)) }
     ensures broken { OnErr result ((n : ℕ) (lanes : List Lane) → HasWords script.now n session.old.order → StandsFor script.now session.old ram.old lanes
-        → BrokenBefore script.now turn n (told_of M.blocks namespace.old) (map M.faults (media_of namespace.old)) lanes (K.bytes output.old)
-        (told_of M.blocks namespace.new) (map M.faults (media_of namespace.new)) session.new ram.new (K.bytes output.new)) }
+        → BrokenBefore script.now turn n (told_of M.state namespace.old) (faults_of M.state namespace.old) lanes (K.bytes output.old)
+        (told_of M.state namespace.new) (faults_of M.state namespace.new) session.new ram.new (K.bytes output.new)) }
     ensures session { IsSession script.now session.new }
     ensures between { IsBetween script.now session.new }
     ensures stands { CanStand script.now session.new ram.new }
@@ -233,11 +233,11 @@ fn run_turns<K: Sink, M: Medium>(
     requires namespace { IsNamespaceOf script.now.head namespace.old }
 
     ensures turned { OnOk result ((n : ℕ) (lanes : List Lane) → HasWords script.now n session.old.order → StandsFor script.now session.old ram.old lanes
-        → TurnedTo script.now n (told_of M.blocks namespace.old) (map M.faults (media_of namespace.old)) lanes (K.bytes output.old)
-        (told_of M.blocks namespace.new) (map M.faults (media_of namespace.new)) session.new ram.new (K.bytes output.new)) }
+        → TurnedTo script.now n (told_of M.state namespace.old) (faults_of M.state namespace.old) lanes (K.bytes output.old)
+        (told_of M.state namespace.new) (faults_of M.state namespace.new) session.new ram.new (K.bytes output.new)) }
     ensures broken { OnErr result ((n : ℕ) (lanes : List Lane) → HasWords script.now n session.old.order → StandsFor script.now session.old ram.old lanes
-        → BrokenTo script.now n (told_of M.blocks namespace.old) (map M.faults (media_of namespace.old)) lanes (K.bytes output.old)
-        (told_of M.blocks namespace.new) (map M.faults (media_of namespace.new)) session.new ram.new (K.bytes output.new)) }
+        → BrokenTo script.now n (told_of M.state namespace.old) (faults_of M.state namespace.old) lanes (K.bytes output.old)
+        (told_of M.state namespace.new) (faults_of M.state namespace.new) session.new ram.new (K.bytes output.new)) }
     ensures complete { OnOk result (IsCompleteSession script.now session.new) }
     ensures session { IsSession script.now session.new }
     ensures between { IsBetween script.now session.new }
@@ -273,8 +273,8 @@ fn run_turn<K: Sink, M: Medium>(
     requires namespace { IsNamespaceOf script.now.head namespace.old }
 
     ensures turns { (n : ℕ) (lanes : List Lane) → HasWords script.now n session.old.order → StandsFor script.now session.old ram.old lanes
-        → TurnsTo script.now n (told_of M.blocks namespace.old) (map M.faults (media_of namespace.old)) lanes
-        (told_of M.blocks namespace.new) (map M.faults (media_of namespace.new)) session.new ram.new session.new.events.items }
+        → TurnsTo script.now n (told_of M.state namespace.old) (faults_of M.state namespace.old) lanes
+        (told_of M.state namespace.new) (faults_of M.state namespace.new) session.new ram.new session.new.events.items }
     ensures written { OnOk result (K.bytes output.new ≡ with_more (text_of session.new.events.items) (K.bytes output.old)) }
     ensures cut { OnErr result (IsCut (text_of session.new.events.items) (K.bytes output.old) (K.bytes output.new)) }
     ensures session { IsSession script.now session.new }

@@ -1,8 +1,8 @@
 // One turn on one thread: a list of events, whose lines are written after it.
-ghost use Rattle.std.specs.Prelude.{◌≡◌, ◌+◌, ◌*◌, ◌<◌, ◌≤◌, ◌↔◌, ℕ, List, IsTrue, map, vec_capacity};
+ghost use Rattle.std.specs.Prelude.{◌<◌, ℕ, List, IsTrue};
 ghost use Rattle.nvm_model.specs.ScriptText.{IsScript};
 ghost use Rattle.nvm_model.specs.World.{Lane};
-ghost use Rattle.nvm_blocks.specs.Namespace.{media_of, told_of};
+ghost use Rattle.nvm_blocks.specs.Namespace.{faults_of, told_of};
 ghost use Rattle.session.specs.Lanes.{CanStand, HasWords, HaveWindows, IsBetween, IsSession, StandsFor};
 ghost use Rattle.session.specs.Run.{IsCompleteSession, TurnsTo, session_work};
 ghost use Rattle.session.specs.Shelves.{IsNamespaceOf, SameShelves};
@@ -50,8 +50,8 @@ pub(crate) fn turn<M: Medium>(
     requires namespace { IsNamespaceOf script.now.head namespace.old }
 
     ensures turns { (n : ℕ) (lanes : List Lane) → HasWords script.now n session.old.order → StandsFor script.now session.old windows.old lanes
-        → TurnsTo script.now n (told_of M.blocks namespace.old) (map M.faults (media_of namespace.old)) lanes
-        (told_of M.blocks namespace.new) (map M.faults (media_of namespace.new)) session.new windows.new session.new.events.items }
+        → TurnsTo script.now n (told_of M.state namespace.old) (faults_of M.state namespace.old) lanes
+        (told_of M.state namespace.new) (faults_of M.state namespace.new) session.new windows.new session.new.events.items }
     ensures session { IsSession script.now session.new }
     ensures between { IsBetween script.now session.new }
     ensures windows { HaveWindows script.now windows.new }

@@ -1,5 +1,5 @@
 // The shelves as a list, while they are made and taken apart.
-ghost use Rattle.std.specs.Prelude.{◌≡◌, ◌+◌, ◌-◌, ◌*◌, ◌<◌, ◌≤◌, [], ◌++◌, All, OnErr, OnOk, length, map, reverse, vec_capacity, vec_len};
+ghost use Rattle.std.specs.Prelude.{◌≡◌, ◌+◌, ◌-◌, ◌*◌, ◌<◌, ◌≤◌, [], ◌++◌, All, OnOk, length, map, reverse, vec_capacity};
 ghost use Rattle.nvm_blocks.specs.Shelves.{AreNew, cleared};
 
 use crate::Shelf;
@@ -21,12 +21,12 @@ pub(super) fn make_shelves<M: Medium>(
 ) -> Result<(), OutOfMemory>
     requires large { 1 ≤ shelf }
     requires few { length media.old.items * shelf ≤ 131072 }
-    requires sizes { All (λ m. M.size m ≡ shelf) media.old.items }
+    requires sizes { All (λ m. (M.state m).size ≡ shelf) media.old.items }
     requires none { shelves.old.items ≡ [] }
     requires capacity { length media.old.items ≤ vec_capacity shelves.old }
     ensures media { media.new.items ++ map (λ s. s.medium) (reverse shelves.new.items) ≡ media.old.items }
     ensures all { OnOk result (media.new.items ≡ []) }
-    ensures shelves { AreNew M.blocks M.size shelf room (length media.old.items) shelves.new.items }
+    ensures shelves { AreNew M.state shelf room (length media.old.items) shelves.new.items }
     ensures capacity { vec_capacity media.new ≡ vec_capacity media.old }
 {
     while let Some(medium) = media.pop() {

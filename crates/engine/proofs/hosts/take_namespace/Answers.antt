@@ -5,10 +5,10 @@ use Rattle.engine.proofs.hosts.take_namespace.Goals as goal
 pub make-requires-clause-sizes : goal.make-requires-clause-sizes
 make-requires-clause-sizes g c =
     let head = c.args.head.now in
-    all_of_size g.M.Medium.size c.replace-media.result.items (head.blocks / head.shelf) head.shelf (same_media g.M.Medium.size (ap (λ media. media.items) c.replace-media.ensures.value) c.requires.sizes)
+    all_of_size (λ m. (g.M.Medium.state m).size) c.replace-media.result.items (head.blocks / head.shelf) head.shelf (same_media (λ m. (g.M.Medium.state m).size) (ap (λ media. media.items) c.replace-media.ensures.value) c.requires.sizes)
 
 pub returns-in-Ok-clause-fits : goal.returns-in-Ok-clause-fits
 returns-in-Ok-clause-fits g c =
     let head = c.args.head.now in
-    is_namespace g.M.Medium.size head c.replace-media.result.items c.in-Ok.namespace c.requires.head (same_media g.M.Medium.size (ap (λ media. media.items) c.replace-media.ensures.value) c.requires.sizes)
+    is_namespace (λ m. (g.M.Medium.state m).size) head c.replace-media.result.items c.in-Ok.namespace c.requires.head (same_media (λ m. (g.M.Medium.state m).size) (ap (λ media. media.items) c.replace-media.ensures.value) c.requires.sizes)
     c.in-Ok.ensures.media c.in-Ok.ensures.shelf c.in-Ok.ensures.rooms

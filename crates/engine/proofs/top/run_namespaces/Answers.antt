@@ -9,6 +9,6 @@ run-ended-requires-clause-to_memory g c = made_windows c.requires.taken.script c
 pub returns-in-Ok-clause-ran : goal.returns-in-Ok-clause-ran
 returns-in-Ok-clause-ran g c =
     let medium = g.M.Medium in
-    ended_is medium.blocks medium.faults (media_of c.args.from_namespace) (media_of c.args.to_namespace) (media_of c.run-ended.new.from) (media_of c.run-ended.new.to) c.run-ended.new.from_ram c.run-ended.new.to_ram
+    ended_is medium.state (media_of c.args.from_namespace) (media_of c.args.to_namespace) (media_of c.run-ended.new.from) (media_of c.run-ended.new.to) c.run-ended.new.from_ram c.run-ended.new.to_ram
     (sym (c.give_back.ensures.shelves ∙ c.into_media.ensures)) (sym (c.give_back-2.ensures.shelves ∙ c.into_media-2.ensures))
     (sym c.give_back.ensures.ram) (sym c.give_back-2.ensures.ram) c.in-Ok.ensures.run

@@ -1,15 +1,6 @@
-use Rattle.std.proofs.Common.{◌≡◌}
 use Rattle.nvm_values.specs.declared.op.Op.TheVariants.{Verify}
-use Rattle.nvm_model.specs.Trace.{good_calls}
-use Rattle.mig_medium.specs.Calls.{HasMade}
+use Rattle.nvm_blocks.specs.Work.{HasMoved}
 use Rattle.nvm_blocks.proofs.work.verify.Given as goal
 
 abbrev pub invariant-loop-i : goal.invariant-loop-i
-invariant-loop-i g l =
-    let medium = g.M.Medium in
-    record {
-      same_blocks : medium.blocks l.medium ≡ medium.blocks l.fn.medium;
-      same_size : medium.size l.medium ≡ medium.size l.fn.medium;
-      made : HasMade medium.moves (medium.trace l.fn.medium) (medium.inside l.fn.medium) (medium.faults l.fn.medium) (good_calls Verify l.first l.i)
-          (medium.trace l.medium) (medium.inside l.medium) (medium.faults l.medium);
-    }
+invariant-loop-i g l = HasMoved g.M.Medium.state g.M.Medium.moves Verify l.first l.i (λ moved. Unit {0}) l.fn.medium l.medium

@@ -1,23 +1,18 @@
-use Rattle.std.proofs.Common.{◌≡◌, ℕ, ◌+◌, ap, refl, ◌∙◌, arith, rules}
+use Rattle.std.proofs.Common.{◌∙◌, arith}
 use Rattle.nvm_values.specs.declared.op.Op.TheVariants.{Write}
-use Rattle.nvm_model.specs.Piece.{data_block}
-use Rattle.guest_ram.specs.Window.{data_pages}
-use Rattle.nvm_blocks.specs.Work.{put_told}
-use Rattle.nvm_blocks.proofs.CallLemmas.{made_good, made_fault}
+use Rattle.nvm_blocks.proofs.CallLemmas.{all_moved, due_more, due_none, moved_more, moved_none, some_failed, write_is}
 use Rattle.nvm_blocks.proofs.work.write.Goals as goal
 
-pub returns-in-Err-clause-made : goal.returns-in-Err-clause-made
-returns-in-Err-clause-made g c =
-    made_fault Write c.args.first c.loop-i.i c.args.piece.now.span.count c.loop-i.invariant.made c.in-Err.ensures.traced c.in-Err.ensures.moved c.in-Err.ensures.cause.later (c.in-Err.ensures.cause.failed refl)
+pub loop-i-init : goal.loop-i-init
+loop-i-init g c = moved_none Write c.args.first (due_none _)
 
 pub loop-i-preserved : goal.loop-i-preserved
-loop-i-preserved g c = record {
-  put = search rules;
-  same_size = search rules;
-  made = made_good Write c.args.first c.loop-i.i c.loop-i.invariant.made c.in-Ok.ensures.traced c.in-Ok.ensures.moved c.in-Ok.ensures.cause.later;
-}
+loop-i-preserved g c = moved_more Write c.args.first c.loop-i.i _ c.loop-i.invariant c.in-Ok.ensures (due_more _ c.loop-i.i _ (c.copy_from_slice.ensures.after ∙ c.data_block.ensures.value))
 
-pub returns-clause-put : goal.returns-clause-put
-returns-clause-put g c =
-    let all : c.loop-i.i ≡ c.args.piece.now.span.count = omega arith in
-    c.loop-i.invariant.put ∙ ap (λ (n : ℕ). put_told (λ i. data_block (data_pages c.args.window.now) c.args.piece.now.pages (c.args.piece.now.at + i)) c.args.first n (g.M.Medium.blocks c.args.medium.now)) all
+pub returns-in-Err : goal.returns-in-Err
+returns-in-Err g c =
+    some_failed Write _ _ c.requires.op c.loop-i.invariant c.in-Err.ensures (c.copy_from_slice.ensures.after ∙ c.data_block.ensures.value)
+    (λ moved size due. write_is c.requires.op size due (omega arith))
+
+pub returns : goal.returns
+returns g c = all_moved Write _ c.requires.op c.loop-i.invariant (λ moved size due. write_is c.requires.op (omega arith) due tt)

@@ -1,18 +1,10 @@
-use Rattle.std.proofs.Common.{◌≡◌, ◌+◌}
+use Rattle.std.proofs.Common.{◌+◌}
 use Rattle.nvm_values.specs.declared.op.Op.TheVariants.{Write}
 use Rattle.nvm_model.specs.Piece.{data_block}
-use Rattle.nvm_model.specs.Trace.{good_calls}
-use Rattle.mig_medium.specs.Calls.{HasMade}
+use Rattle.nvm_model.specs.Trace.{AreDue}
 use Rattle.guest_ram.specs.Window.{data_pages}
-use Rattle.nvm_blocks.specs.Work.{put_told}
+use Rattle.nvm_blocks.specs.Work.{HasMoved}
 use Rattle.nvm_blocks.proofs.work.write.Given as goal
 
 abbrev pub invariant-loop-i : goal.invariant-loop-i
-invariant-loop-i g l =
-    let medium = g.M.Medium in
-    record {
-      put : medium.blocks l.medium ≡ put_told (λ i. data_block (data_pages l.window) l.piece.pages (l.piece.at + i)) l.first l.i (medium.blocks l.fn.medium);
-      same_size : medium.size l.medium ≡ medium.size l.fn.medium;
-      made : HasMade medium.moves (medium.trace l.fn.medium) (medium.inside l.fn.medium) (medium.faults l.fn.medium) (good_calls Write l.first l.i)
-          (medium.trace l.medium) (medium.inside l.medium) (medium.faults l.medium);
-    }
+invariant-loop-i g l = HasMoved g.M.Medium.state g.M.Medium.moves Write l.first l.i (AreDue (λ i. data_block (data_pages l.window) l.piece.pages (l.piece.at + i))) l.fn.medium l.medium

@@ -1,15 +1,15 @@
 use Rattle.std.proofs.Common.{◌++◌, ℕ, List, Option, refl, subst, ◌∙◌}
 use Rattle.mig_base.proofs.CountLemmas.{never_both, never_more, never_stay}
-use Rattle.nvm_blocks.specs.Namespace.{told_of}
+use Rattle.nvm_blocks.specs.Namespace.{faults_of, told_of}
 use Rattle.session.specs.Side.{CopiesBlock}
 use Rattle.session.proofs.CopyLemmas.{block_copied, none_copied, rose_after}
-use Rattle.session.proofs.ShelvesLemmas.{faults_of, same_more, same_stay}
+use Rattle.session.proofs.ShelvesLemmas.{same_more, same_stay}
 use Rattle.session.proofs.cutover.copy_blocks.Goals as goal
 
 pub loop-b-init : goal.loop-b-init
 loop-b-init g c =
-    let told = told_of g.M.Medium.blocks in
-    let faults = faults_of g.M.Medium.faults in
+    let told = told_of g.M.Medium.state in
+    let faults = faults_of g.M.Medium.state in
     record {
       copied = none_copied (told c.args.from.now) (told c.args.to.now);
       same_blocks = refl;
@@ -21,8 +21,8 @@ loop-b-init g c =
 
 pub loop-b-preserved : goal.loop-b-preserved
 loop-b-preserved g c =
-    let told = told_of g.M.Medium.blocks in
-    let faults = faults_of g.M.Medium.faults in
+    let told = told_of g.M.Medium.state in
+    let faults = faults_of g.M.Medium.state in
     let so_far = c.loop-b.invariant in
     let one = c.copy_block.ensures in
     let new_to = told c.copy_block.new.to in
@@ -39,7 +39,7 @@ loop-b-preserved g c =
 
 pub returns-in-Err-clause-rose : goal.returns-in-Err-clause-rose
 returns-in-Err-clause-rose g c =
-    let faults = faults_of g.M.Medium.faults in
+    let faults = faults_of g.M.Medium.state in
     let from = faults c.args.from.now in
     let to = faults c.args.to.now in
     let mid_from = faults c.loop-b.from in
@@ -52,7 +52,7 @@ returns-in-Err-clause-rose g c =
 
 pub returns-in-Err-clause-later : goal.returns-in-Err-clause-later
 returns-in-Err-clause-later g c =
-    let faults = faults_of g.M.Medium.faults in
+    let faults = faults_of g.M.Medium.state in
     let later = c.copy_block.ensures.later in (
       never_more (faults c.args.from.now) (faults c.loop-b.from) (faults c.copy_block.new.from) c.loop-b.invariant.from_later later.0,
       never_more (faults c.args.to.now) (faults c.loop-b.to) (faults c.copy_block.new.to) c.loop-b.invariant.to_later later.1,

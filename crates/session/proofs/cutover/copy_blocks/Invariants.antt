@@ -1,15 +1,14 @@
 use Rattle.std.proofs.Common.{◌≡◌}
 use Rattle.mig_base.specs.Count.{NeverFall}
-use Rattle.nvm_blocks.specs.Namespace.{told_of}
+use Rattle.nvm_blocks.specs.Namespace.{faults_of, told_of}
 use Rattle.session.specs.Shelves.{SameShelves}
 use Rattle.session.specs.Side.{AreCopied}
-use Rattle.session.proofs.ShelvesLemmas.{faults_of}
 use Rattle.session.proofs.cutover.copy_blocks.Given as goal
 
 abbrev pub invariant-loop-b : goal.invariant-loop-b
 invariant-loop-b g l =
-    let told = told_of g.M.Medium.blocks in
-    let faults = faults_of g.M.Medium.faults in
+    let told = told_of g.M.Medium.state in
+    let faults = faults_of g.M.Medium.state in
     record {
       copied : AreCopied l.b (told l.fn.from) (told l.fn.to) (told l.to);
       same_blocks : told l.from ≡ told l.fn.from;

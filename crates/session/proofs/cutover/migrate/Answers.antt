@@ -4,9 +4,9 @@ use Rattle.mig_base.specs.Stream.{IsCut, with_more}
 use Rattle.nvm_model.specs.Text.{text_of}
 use Rattle.nvm_model.specs.World.{window_pages}
 use Rattle.nvm_model.specs.declared.line.Line.TheVariants as line
+use Rattle.nvm_blocks.specs.Namespace.{faults_of}
 use Rattle.session.specs.Run.{ending_lines}
 use Rattle.session.proofs.CopyLemmas.{have_pages, moves_rose, one_shape, same_windows}
-use Rattle.session.proofs.ShelvesLemmas.{faults_of}
 use Rattle.session.proofs.TextLemmas.{lines_more}
 use Rattle.session.proofs.cutover.migrate.Goals as goal
 
@@ -15,7 +15,7 @@ returns-in-Err-clause-stopped g c = inl (record { text = c.in-Err.ensures.cut; f
 
 pub returns-in-Err-clause-later : goal.returns-in-Err-clause-later
 returns-in-Err-clause-later g c =
-    let faults = faults_of g.M.Medium.faults in
+    let faults = faults_of g.M.Medium.state in
     (never_stay (faults c.args.from.now), never_stay (faults c.args.to.now))
 
 pub copy_all-ending-requires-clause-shapes : goal.copy_all-ending-requires-clause-shapes
@@ -25,7 +25,7 @@ pub returns-in-Ok-write_ending-clause-moved : goal.returns-in-Ok-write_ending-cl
 returns-in-Ok-write_ending-clause-moved g c =
     let s = c.args.script.now in
     let sink = g.K.Sink in
-    let faults = faults_of g.M.Medium.faults in
+    let faults = faults_of g.M.Medium.state in
     let ending = c.copy_all-ending.result in
     let later = c.copy_all-ending.ensures.later in
     let mid = sink.bytes c.write_lines.new.output in
@@ -46,7 +46,7 @@ pub returns-in-Err-write_ending-clause-stopped : goal.returns-in-Err-write_endin
 returns-in-Err-write_ending-clause-stopped g c =
     let s = c.args.script.now in
     let sink = g.K.Sink in
-    let faults = faults_of g.M.Medium.faults in
+    let faults = faults_of g.M.Medium.state in
     let ending = c.copy_all-ending.result in
     let later = c.copy_all-ending.ensures.later in
     let mid = sink.bytes c.write_lines.new.output in

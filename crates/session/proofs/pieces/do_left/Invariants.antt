@@ -1,6 +1,6 @@
-use Rattle.std.proofs.Common.{◌≡◌, ◌+◌, ℕ, List, map, sum, vec_len, vec_capacity}
+use Rattle.std.proofs.Common.{◌≡◌, ◌+◌, ℕ, List, sum, vec_len, vec_capacity}
 use Rattle.nvm_model.specs.World.{Lane}
-use Rattle.nvm_blocks.specs.Namespace.{media_of, told_of}
+use Rattle.nvm_blocks.specs.Namespace.{faults_of, told_of}
 use Rattle.session.specs.Lanes.{ArePlanned, HasWords, HaveWindows, IsSession, StandsFor}
 use Rattle.session.specs.Shelves.{SameShelves}
 use Rattle.session.specs.Work.{AreLeft}
@@ -12,8 +12,8 @@ invariant-pieces g l =
     let medium = g.M.Medium in
     record {
       works : (n : ℕ) (lanes : List Lane) → HasWords l.script n l.fn.session.order → StandsFor l.script l.fn.session l.fn.windows lanes
-          → WorksSoFar l.script n (told_of medium.blocks l.fn.namespace) (map medium.faults (media_of l.fn.namespace)) lanes
-          (told_of medium.blocks l.namespace) (map medium.faults (media_of l.namespace)) l.session l.windows l.fn.session.events.items l.session.events.items;
+          → WorksSoFar l.script n (told_of medium.state l.fn.namespace) (faults_of medium.state l.fn.namespace) lanes
+          (told_of medium.state l.namespace) (faults_of medium.state l.namespace) l.session l.windows l.fn.session.events.items l.session.events.items;
       session : IsSession l.script l.session;
       planned : ArePlanned l.script l.session;
       left : AreLeft l.script l.session l.left;

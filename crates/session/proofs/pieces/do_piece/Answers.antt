@@ -1,14 +1,15 @@
-use Rattle.std.proofs.Common.{◌≡◌, List, ℕ, ◌+◌, ◌-◌, ◌*◌, ◌≤◌, ◌++◌, [], ◌∷◌, get_or, length, map, refl, ap, subst, ◌∙◌, arith}
+use Rattle.std.proofs.Common.{◌≡◌, List, ℕ, ◌+◌, ◌-◌, ◌*◌, ◌≤◌, ◌++◌, [], ◌∷◌, get_or, length, replicate, refl, ap, subst, ◌∙◌, arith}
 use Rattle.std.specs.Prelude.{vec_capacity}
 use Rattle.std.proofs.lemmas.List.{get_or_default, length-drop}
 use Rattle.nvm_model.specs.declared.line.Line.{Line}
 use Rattle.nvm_model.specs.declared.piece.ShelfEntry.{ShelfEntry}
 use Rattle.nvm_model.specs.World.{set_of}
-use Rattle.nvm_blocks.specs.Namespace.{media_of, told_of}
-use Rattle.nvm_blocks.specs.Work.{HasPages}
+use Rattle.nvm_blocks.specs.Namespace.{IsForNamespace, entries_of, faults_of, media_of, told_of}
+use Rattle.nvm_blocks.proofs.NamespaceLaws.{applied_counts, applied_told}
+use Rattle.nvm_blocks.proofs.ShelvesLemmas.{cleared_entries, cleared_media}
 use Rattle.guest_ram.specs.Window.{WindowState, data_pages, no_window}
-use Rattle.session.proofs.PieceLemmas.{entry_fits}
-use Rattle.session.proofs.ShelvesLemmas.{same_namespace}
+use Rattle.session.proofs.PieceLemmas.{entry_fits, for_namespace}
+use Rattle.session.proofs.ShelvesLemmas.{called_same, cleared_shelves, same_more, same_namespace}
 use Rattle.session.proofs.WorkLemmas.{element_at, next_at, none_in_empty, part_at, piece_works, pieces_fit, session_after, still_works}
 use Rattle.session.proofs.pieces.do_piece.Goals as goal
 
@@ -16,36 +17,13 @@ pub next_piece-piece-requires-clause-few : goal.next_piece-piece-requires-clause
 next_piece-piece-requires-clause-few g c =
     omega (arith, c.requires.head.burst.1, pieces_fit c.requires.head.shelf.0 (c.requires.planned (c.args.place + 1) (omega arith) (omega (arith, c.requires.there))))
 
-pub serve_serial-done-requires-clause-op : goal.serve_serial-done-requires-clause-op
-serve_serial-done-requires-clause-op g c =
-    (part_at c.args.place c.next_piece-piece.result.0 c.requires.head.shelf.0 c.requires.planned c.requires.there c.requires.session c.requires.left c.next_piece-piece.ensures.piece).op
-
-pub serve_serial-done-requires-clause-some : goal.serve_serial-done-requires-clause-some
-serve_serial-done-requires-clause-some g c =
-    (part_at c.args.place c.next_piece-piece.result.0 c.requires.head.shelf.0 c.requires.planned c.requires.there c.requires.session c.requires.left c.next_piece-piece.ensures.piece).some
-
-pub serve_serial-done-requires-clause-few : goal.serve_serial-done-requires-clause-few
-serve_serial-done-requires-clause-few g c =
-    (part_at c.args.place c.next_piece-piece.result.0 c.requires.head.shelf.0 c.requires.planned c.requires.there c.requires.session c.requires.left c.next_piece-piece.ensures.piece).few
-
-pub serve_serial-done-requires-clause-within : goal.serve_serial-done-requires-clause-within
-serve_serial-done-requires-clause-within g c =
-    let part = part_at c.args.place c.next_piece-piece.result.0 c.requires.head.shelf.0 c.requires.planned c.requires.there c.requires.session c.requires.left c.next_piece-piece.ensures.piece in
-    let rest = c.clear.ensures.rest in
-    let is = same_namespace c.requires.namespace (record { shelf = rest.shelf; count = rest.count; rooms = rest.rooms }) in
-    omega (arith, part.within, is.blocks)
-
-pub serve_serial-done-requires-clause-one_shelf : goal.serve_serial-done-requires-clause-one_shelf
-serve_serial-done-requires-clause-one_shelf g c =
-    let part = part_at c.args.place c.next_piece-piece.result.0 c.requires.head.shelf.0 c.requires.planned c.requires.there c.requires.session c.requires.left c.next_piece-piece.ensures.piece in
-    let shelf : c.clear.new.self.shelf ≡ c.args.script.now.head.shelf = c.clear.ensures.rest.shelf ∙ c.requires.namespace.shelf in
-    rw shelf part.one_shelf
-
-pub serve_serial-done-requires-clause-pages : goal.serve_serial-done-requires-clause-pages
-serve_serial-done-requires-clause-pages g c =
+pub serve_serial-done-requires-clause-piece : goal.serve_serial-done-requires-clause-piece
+serve_serial-done-requires-clause-piece g c =
     let s = c.args.script.now in
     let place = c.args.place in
-    let part = part_at c.args.place c.next_piece-piece.result.0 c.requires.head.shelf.0 c.requires.planned c.requires.there c.requires.session c.requires.left c.next_piece-piece.ensures.piece in
+    let piece = c.next_piece-piece.result.0 in
+    let part = part_at place piece c.requires.head.shelf.0 c.requires.planned c.requires.there c.requires.session c.requires.left c.next_piece-piece.ensures.piece in
+    let is = same_namespace c.requires.namespace (cleared_shelves c.clear.ensures) in
     let here : place + 1 - 1 ≡ place = omega arith in
     let window = get_or c.args.windows.now place c.index-windows-place.result in
     let there = c.requires.windows.each (place + 1) (omega arith) (omega (arith, c.requires.there)) in
@@ -53,15 +31,16 @@ serve_serial-done-requires-clause-pages g c =
     ap (λ (i : ℕ). get_or c.args.windows.now i no_window) here ∙ get_or_default c.args.windows.now place no_window c.index-windows-place.result (omega (arith, c.requires.there, c.requires.windows.count)) in
     let size : length window.pages ≡ (set_of s.head (place + 1)).pages + 2 = subst (λ (w : WindowState). length w.pages ≡ (set_of s.head (place + 1)).pages + 2) same there.size in
     let pages : (set_of s.head (place + 1)).pages ≡ length (data_pages window) = omega (arith, size, length-drop 2 window.pages) in
-    subst (λ (n : ℕ). HasPages c.next_piece-piece.result.0 n) pages part.has_pages
+    subst (λ (n : ℕ). IsForNamespace c.clear.new.self n piece) pages (for_namespace part is)
 
 pub serve_serial-done-requires-clause-room : goal.serve_serial-done-requires-clause-room
 serve_serial-done-requires-clause-room g c =
     let part = part_at c.args.place c.next_piece-piece.result.0 c.requires.head.shelf.0 c.requires.planned c.requires.there c.requires.session c.requires.left c.next_piece-piece.ensures.piece in
-    let rest = c.clear.ensures.rest in
-    let is = same_namespace c.requires.namespace (record { shelf = rest.shelf; count = rest.count; rooms = rest.rooms }) in
+    let shelves = c.args.namespace.now.shelves in
+    let is = same_namespace c.requires.namespace (cleared_shelves c.clear.ensures) in
+    let entries : entries_of c.clear.new.self ≡ replicate (length shelves) [] = ap (λ n. entries_of n) c.clear.ensures ∙ cleared_entries shelves in
     entry_fits c.args.script.now.head c.clear.new.self c.next_piece-piece.result.0.span.first is c.requires.head.shelf.0 (omega (arith, part.some, part.within, is.blocks))
-    (λ i. rw c.clear.ensures.entries (omega (arith, none_in_empty ShelfEntry (length c.args.namespace.now.shelves) i)))
+    (λ i. rw entries (omega (arith, none_in_empty ShelfEntry (length shelves) i)))
 
 pub push_result-requires-clause-room : goal.push_result-requires-clause-room
 push_result-requires-clause-room g c = λ d.
@@ -85,22 +64,26 @@ returns-clause-works g c = λ lanes stands.
     let piece = c.next_piece-piece.result.0 in
     let done = c.serve_serial-done.result in
     let window = get_or c.args.windows.now place c.index-windows-place.result in
-    let blocks = g.M.Medium.blocks in
-    let count = g.M.Medium.faults in
+    let state = g.M.Medium.state in
     let new = c.serve_serial-done.new.namespace in
-    still_works blocks count c.clear.new.self c.args.namespace.now c.clear.ensures.media
+    let applied = c.serve_serial-done.ensures.applied in
+    let counts = applied_counts applied in
+    still_works state c.clear.new.self c.args.namespace.now (ap (λ n. media_of n) c.clear.ensures ∙ cleared_media c.args.namespace.now.shelves)
     (piece_works place run window piece done c.serve_serial-done.new.w
-    (told_of blocks c.clear.new.self) (map count (media_of c.clear.new.self)) (told_of blocks new) (map count (media_of new)) session.events.items c.push_reserved.new.self.items
+    (told_of state c.clear.new.self) (faults_of state c.clear.new.self) (told_of state new) (faults_of state new) session.events.items c.push_reserved.new.self.items
     (◌∙◌ {A = List Line} c.push_reserved.ensures.items (ap {B = List Line} (λ (e : Line). session.events.items ++ e ∷ []) c.piece_line.ensures))
     low c.requires.windows.count c.serve_serial-done.ensures.same c.push_result.ensures.others c.push_result.ensures.here
     (λ e. get_or_default session.lanes.items place e d (omega (arith, low, c.requires.session.count)))
     (get_or_default c.args.windows.now place no_window c.index-windows-place.result (omega (arith, low, c.requires.windows.count)))
     c.serve_serial-done.ensures.window
     (next_at place d piece c.requires.planned low (c.requires.left d) (c.next_piece-piece.ensures.piece d piece))
-    c.serve_serial-done.ensures.effect c.serve_serial-done.ensures.later c.serve_serial-done.ensures.cause stands)
+    (applied_told applied) counts.0 counts.1 stands)
 
 pub returns-clause-session : goal.returns-clause-session
 returns-clause-session g c =
     session_after c.args.place c.serve_serial-done.result c.requires.session
     (record { controller = c.serve_serial-done.ensures.same; plan = refl; order = refl; capacity = c.push_reserved.ensures.capacity; lanes = c.push_result.ensures.count })
     c.push_result.ensures.others c.push_result.ensures.here
+
+pub returns-clause-namespace : goal.returns-clause-namespace
+returns-clause-namespace g c = same_more (cleared_shelves c.clear.ensures) (called_same c.serve_serial-done.ensures.applied.called)

@@ -1,13 +1,13 @@
-use Rattle.std.proofs.Common.{map, sym, ◌∙◌, arith}
+use Rattle.std.proofs.Common.{sym, ◌∙◌, arith}
 use Rattle.std.proofs.lemmas.Bool.{false≢true}
-use Rattle.nvm_blocks.specs.Namespace.{media_of, told_of}
+use Rattle.nvm_blocks.specs.Namespace.{faults_of, told_of}
 use Rattle.session.proofs.ShelvesLemmas.{same_more, same_namespace, same_stay}
 use Rattle.session.proofs.TurnedLemmas.{to_broken, to_more, to_none}
 use Rattle.session.proofs.serial.run_turns.Goals as goal
 
 pub turns-init : goal.turns-init
 turns-init g c = record {
-  turned = λ n lanes words stands. (to_none n (told_of g.M.Medium.blocks c.args.namespace.now) (map g.M.Medium.faults (media_of c.args.namespace.now)) lanes (g.K.Sink.bytes c.args.output.now) words stands).0;
+  turned = λ n lanes words stands. (to_none n (told_of g.M.Medium.state c.args.namespace.now) (faults_of g.M.Medium.state c.args.namespace.now) lanes (g.K.Sink.bytes c.args.output.now) words stands).0;
   session = c.requires.session;
   between = c.requires.between;
   stands = c.requires.stands;

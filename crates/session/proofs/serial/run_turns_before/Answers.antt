@@ -1,6 +1,6 @@
-use Rattle.std.proofs.Common.{inl, inr, map, refl, arith}
+use Rattle.std.proofs.Common.{inl, inr, refl, arith}
 use Rattle.std.proofs.lemmas.Bool.{false≢true}
-use Rattle.nvm_blocks.specs.Namespace.{media_of, told_of}
+use Rattle.nvm_blocks.specs.Namespace.{faults_of, told_of}
 use Rattle.session.proofs.BetweenLemmas.{complete_is}
 use Rattle.session.proofs.ShelvesLemmas.{same_more, same_namespace, same_stay}
 use Rattle.session.proofs.TurnedLemmas.{to_broken, to_more, to_none}
@@ -9,7 +9,7 @@ use Rattle.session.proofs.serial.run_turns_before.Goals as goal
 pub loop-done-init : goal.loop-done-init
 loop-done-init g c = record {
   turned = λ n lanes words stands.
-      let none = to_none n (told_of g.M.Medium.blocks c.args.namespace.now) (map g.M.Medium.faults (media_of c.args.namespace.now)) lanes (g.K.Sink.bytes c.args.output.now) words stands in
+      let none = to_none n (told_of g.M.Medium.state c.args.namespace.now) (faults_of g.M.Medium.state c.args.namespace.now) lanes (g.K.Sink.bytes c.args.output.now) words stands in
       (none.0, omega (arith, none.1));
   session = c.requires.session;
   between = c.requires.between;

@@ -1,6 +1,6 @@
-use Rattle.std.proofs.Common.{◌≡◌, ◌+◌, ◌≤◌, ℕ, List, length, map}
+use Rattle.std.proofs.Common.{◌≡◌, ◌+◌, ◌≤◌, ℕ, List, length}
 use Rattle.nvm_model.specs.World.{Lane}
-use Rattle.nvm_blocks.specs.Namespace.{media_of, told_of}
+use Rattle.nvm_blocks.specs.Namespace.{faults_of, told_of}
 use Rattle.session.specs.Lanes.{CanStand, HasWords, HaveWindows, IsBetween, IsSession, StandsFor}
 use Rattle.session.specs.Run.{TurnedTo}
 use Rattle.session.specs.Shelves.{SameShelves}
@@ -12,8 +12,8 @@ invariant-loop-done g l =
     let sink = g.K.Sink in
     record {
       turned : (n : ℕ) (lanes : List Lane) → HasWords l.script n l.fn.session.order → StandsFor l.script l.fn.session l.fn.ram lanes
-          → (to : TurnedTo l.script n (told_of medium.blocks l.fn.namespace) (map medium.faults (media_of l.fn.namespace)) lanes (sink.bytes l.fn.output)
-          (told_of medium.blocks l.namespace) (map medium.faults (media_of l.namespace)) l.session l.ram (sink.bytes l.output)) × (length to.turned.turns + 1 ≡ l.done);
+          → (to : TurnedTo l.script n (told_of medium.state l.fn.namespace) (faults_of medium.state l.fn.namespace) lanes (sink.bytes l.fn.output)
+          (told_of medium.state l.namespace) (faults_of medium.state l.namespace) l.session l.ram (sink.bytes l.output)) × (length to.turned.turns + 1 ≡ l.done);
       session : IsSession l.script l.session;
       between : IsBetween l.script l.session;
       stands : CanStand l.script l.session l.ram;

@@ -1,0 +1,105 @@
+use Rattle.std.specs.Prelude.{IfSome, OnErr, OnOk, is_err}
+use Rattle.std.proofs.Common.{◌≡◌, ℕ, ◌+◌, ◌/◌, ◌%◌, Bool, cond, List, [], ◌∷◌, Option, Some, None, Result, Ok, Err, length, set, refl, sym, ap, subst, ◌∙◌}
+use Rattle.std.proofs.lemmas.Nat.{div-add-mod'}
+use Rattle.std.proofs.lemmas.List.{length-map}
+use Rattle.mig_base.specs.Count.{HaveCause, NeverFall, RiseBy}
+use Rattle.nvm_model.specs.declared.piece.Piece.{Piece}
+use Rattle.nvm_model.specs.declared.piece.PieceResult.{PieceResult}
+use Rattle.nvm_model.specs.declared.trace.Step.{Step}
+use Rattle.nvm_model.specs.History.{is_faulted}
+use Rattle.nvm_model.specs.Medium.{At, Effect, MediumState, StayTold, flat_call, got, sent}
+use Rattle.nvm_model.specs.Piece.{block_at}
+use Rattle.nvm_model.specs.Trace.{piece_calls}
+use Rattle.nvm_model.proofs.MediaLemmas.{counts_rise, failures_of, flat_calls, piece_told, told_map}
+use Rattle.nvm_blocks.specs.Namespace.{HasAppliedIn, HasCalled, NamespaceState, faults_of, media_of, told_of}
+use Rattle.nvm_blocks.specs.ShelfState.{ShelfState}
+use Rattle.nvm_blocks.specs.Work.{HasToldEffect}
+
+-- What the calls of a namespace's media come to, for its told blocks and for its counts of failed calls.
+
+-- it has as many shelves as before
+pub as_many_shelves : {M I : Type 0} {state : M → MediumState I} {moves : I → Step → Bool → I → Type 0} {n new : NamespaceState M} {calls : List At} → HasCalled state moves n calls new → length new.shelves ≡ length n.shelves
+as_many_shelves {M} {n = n} {new} h =
+    sym (length-map new.shelves (λ (s : ShelfState M). s.room)) ∙ ap (λ (l : List ℕ). length l) h.rooms ∙ length-map n.shelves (λ (s : ShelfState M). s.room)
+
+-- A piece.
+
+pub applied_told : {M I : Type 0} {state : M → MediumState I} {moves : I → Step → Bool → I → Type 0} {piece : Piece} {result : PieceResult} {n new : NamespaceState M} {memory new_memory : List (List ℕ)} →
+    HasAppliedIn state moves piece result n memory new new_memory → HasToldEffect piece piece.span.first result (told_of state n) memory (told_of state new) new_memory
+applied_told {state = state} {moves} {piece} {result} {n} {new} {memory} {new_memory} h =
+    let first : ℕ = piece.span.first in
+    subst (λ (k : ℕ). HasToldEffect piece k result (told_of state n) memory (told_of state new) new_memory) (div-add-mod' first n.shelf)
+    (piece_told state moves n.shelf (first / n.shelf) (first % n.shelf) piece h.moved result (media_of n) memory (media_of new) new_memory h.done h.called.made h.called.sizes)
+
+pub applied_counts : {M I : Type 0} {state : M → MediumState I} {moves : I → Step → Bool → I → Type 0} {piece : Piece} {result : PieceResult} {n new : NamespaceState M} {memory new_memory : List (List ℕ)} →
+    HasAppliedIn state moves piece result n memory new new_memory → NeverFall (faults_of state n) (faults_of state new) × RiseBy (cond (is_faulted result.outcome) 1 0) (faults_of state n) (faults_of state new)
+applied_counts {state = state} {moves} {piece} {result} {n} {new} {memory} h =
+    let first : ℕ = piece.span.first in
+    let counts = counts_rise state moves (media_of n) (first / n.shelf) (piece_calls piece (first % n.shelf) memory h.moved result.outcome) (media_of new) h.called.made in
+    (counts.0, subst (λ (k : ℕ). RiseBy k (faults_of state n) (faults_of state new)) (failures_of piece (first % n.shelf) memory h.moved result.outcome) counts.1)
+
+-- One call.
+
+call_told : {M I : Type 0} {state : M → MediumState I} {moves : I → Step → Bool → I → Type 0} {n new : NamespaceState M} {a : At} → HasCalled state moves n (a ∷ []) new →
+    StayTold (λ x y. Effect x (flat_call n.shelf a) y) (told_of state n) (told_of state new)
+call_told {state = state} {moves} {n} {new} {a} h =
+    told_map _ (λ x y. Effect x (flat_call n.shelf a) y) (told_of state n) (told_of state new) (λ x y c. subst (λ z. Effect x (flat_call n.shelf a) z) (sym c.2) c.1)
+    (flat_calls state moves n.shelf (media_of n) (a ∷ []) (media_of new) h.made h.sizes)
+
+call_counts : {M I T E : Type 0} {state : M → MediumState I} {moves : I → Step → Bool → I → Type 0} {n new : NamespaceState M} {a : At} (result : Result T E) → a.call.failed ≡ is_err result → HasCalled state moves n (a ∷ []) new →
+    HaveCause (faults_of state n) (faults_of state new) result
+call_counts {state = state} {moves} {n} {new} {a} result failed h =
+    let counts = counts_rise state moves (media_of n) a.shelf (a.call ∷ []) (media_of new) h.made in
+    record {
+      later = counts.0;
+      failed = λ err. subst (λ (b : Bool). RiseBy (cond b 1 0 + 0) (faults_of state n) (faults_of state new)) (failed ∙ err) counts.1;
+    }
+
+same_told : (R : List (List ℕ) → List (List ℕ) → Type 0) (old new : Option (List (List ℕ))) → ((x y : List (List ℕ)) → R x y → y ≡ x) → StayTold R old new → new ≡ old
+same_told R None None f h = refl
+same_told R None (Some y) f h = absurd h
+same_told R (Some x) None f h = absurd h
+same_told R (Some x) (Some y) f h = ap (λ (z : List (List ℕ)). Some z) (f x y h)
+
+if_told : (R : List (List ℕ) → List (List ℕ) → Type 0) (P : List (List ℕ) → Type 0) (old new : Option (List (List ℕ))) → ((x y : List (List ℕ)) → R x y → P x) → StayTold R old new → IfSome old P
+if_told R P None new f h = tt
+if_told R P (Some x) None f h = absurd h
+if_told R P (Some x) (Some y) f h = f x y h
+
+-- a block of the namespace that was read: no block changed, and it is the one that is there
+pub record WasRead {M I T E : Type 0} (state : M → MediumState I) (n : NamespaceState M) (b : ℕ) (out : List ℕ) (result : Result T E) (new : NamespaceState M) : Type 0 where
+  pub blocks : told_of state new ≡ told_of state n
+  pub gives : OnOk result (IfSome (told_of state n) (λ blocks. out ≡ block_at blocks b))
+  pub cause : HaveCause (faults_of state n) (faults_of state new) result
+
+pub was_read : {M I T E : Type 0} {state : M → MediumState I} {moves : I → Step → Bool → I → Type 0} {n new : NamespaceState M} (b : ℕ) (out : List ℕ) (result : Result T E) →
+    HasCalled state moves n (record { shelf = b / n.shelf; call = got (b % n.shelf) out result } ∷ []) new → WasRead state n b out result new
+was_read {state = state} {n = n} {new} b out (Ok x) h = record {
+  blocks = same_told _ (told_of state n) (told_of state new) (λ x y e. e.new_is) (call_told h);
+  gives = if_told _ (λ blocks. out ≡ block_at blocks b) (told_of state n) (told_of state new) (λ x y e. e.gives ∙ ap (block_at x) (div-add-mod' b n.shelf)) (call_told h);
+  cause = call_counts (Ok x) refl h;
+}
+was_read {state = state} {n = n} {new} b out (Err x) h = record {
+  blocks = same_told _ (told_of state n) (told_of state new) (λ x y e. e.new_is) (call_told h);
+  gives = tt;
+  cause = call_counts (Err x) refl h;
+}
+
+-- a block of the namespace that was written: it alone changed, and none did where the call failed
+pub record WasPut {M I T E : Type 0} (state : M → MediumState I) (n : NamespaceState M) (b : ℕ) (bytes : List ℕ) (result : Result T E) (new : NamespaceState M) : Type 0 where
+  pub put : OnOk result (StayTold (λ x y. y ≡ set x b bytes) (told_of state n) (told_of state new))
+  pub kept : OnErr result (told_of state new ≡ told_of state n)
+  pub cause : HaveCause (faults_of state n) (faults_of state new) result
+
+pub was_put : {M I T E : Type 0} {state : M → MediumState I} {moves : I → Step → Bool → I → Type 0} {n new : NamespaceState M} (b : ℕ) (bytes : List ℕ) (result : Result T E) →
+    HasCalled state moves n (record { shelf = b / n.shelf; call = sent (b % n.shelf) bytes (is_err result) } ∷ []) new → WasPut state n b bytes result new
+was_put {state = state} {n = n} {new} b bytes (Ok x) h = record {
+  put = told_map _ (λ x y. y ≡ set x b bytes) (told_of state n) (told_of state new) (λ x y e. e.new_is ∙ ap (λ (k : ℕ). set x k bytes) (div-add-mod' b n.shelf)) (call_told h);
+  kept = tt;
+  cause = call_counts (Ok x) refl h;
+}
+was_put {state = state} {n = n} {new} b bytes (Err x) h = record {
+  put = tt;
+  kept = same_told _ (told_of state n) (told_of state new) (λ x y e. e.new_is) (call_told h);
+  cause = call_counts (Err x) refl h;
+}
