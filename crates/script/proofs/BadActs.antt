@@ -21,15 +21,13 @@ use Rattle.script.proofs.Heads.{BeginsElse}
 use Rattle.script.proofs.ActLines.{line_takes, line_again}
 use Rattle.script.proofs.ActLoop.{at_end, at_fault, at_most, at_line}
 use Rattle.script.proofs.Scripts.{set_is, pages_small, acts_take}
-use Rattle.script.proofs.Forms.{bind_err, bind_fails, bind_alike}
+use Rattle.script.proofs.Forms.{answer, bind_err, bind_fails, bind_alike}
 use Rattle.script.proofs.Feeds.{IsOneLine, ends_line}
 use Rattle.script.proofs.BadLines.{Stands, stands_more, bad_by, range_bad, not_begun, not_whole, line_bad}
 use Rattle.script.proofs.Begun.{BeginsRight, right, begins_acts}
 use Rattle.script.proofs.BadHeads.{IsToldBad, moved, on_line_err, bind_assoc}
-use Rattle.script.proofs.ActForms.{answer}
-use Rattle.script.proofs.WholeLines.{line_one, act_line_law, act_begins}
+use Rattle.script.proofs.WholeLines.{line_one, act_line_law, act_begins, act_is_words}
 use Rattle.script.proofs.BadLimits.{BodyAt, nothing_begins, head_walk}
-use Rattle.script.proofs.ActWords.{act_is_words}
 
 abbrev end_line : List ℕ
 end_line = codes "end\n"

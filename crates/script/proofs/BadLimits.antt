@@ -20,13 +20,13 @@ use Rattle.script.specs.BadLine.LineForm.{Keyed, Behind}
 use Rattle.script.proofs.Numbers.{word_again}
 use Rattle.script.proofs.Heads.{keyed, keyed_takes, sizes_text, FitSizes, FitSets, sets_take, sets_again, FitLimits, fits_from, BeginsElse, migrate_again}
 use Rattle.script.proofs.Scripts.{begins_else}
+use Rattle.script.proofs.Forms.{answer}
 use Rattle.script.proofs.Feeds.{count_append, count_one, ends_line}
 use Rattle.script.proofs.BadLines.{Stands, stands_next, Tells, not_whole, line_bad}
 use Rattle.script.proofs.HeadForms.{keyed_law}
 use Rattle.script.proofs.Begun.{BeginsRight, right, shorter, lanes_begun, pace_begun, bounds_begun, limits_begun}
 use Rattle.script.proofs.BadHeads.{IsToldBad, moved, on_line_err, Between, keyed_stage, one_keyed, one_lane, bind_assoc, tells_assoc, step, walk, sets_bad, sizes_count}
 use Rattle.script.proofs.BadGroups.{sizes_walk, pace_walk, bounds_walk}
-use Rattle.script.proofs.ActForms.{answer}
 use Rattle.script.proofs.WholeLines.{act_begins}
 
 -- ---- where acts may stand

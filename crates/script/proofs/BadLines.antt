@@ -10,7 +10,7 @@ use Rattle.script.specs.declared.refusal.Fault.{Fault}
 use Rattle.script.specs.Reading.{word_at, named_at, told, on_line}
 use Rattle.script.specs.Lines.{keyed_form, keyed_at, shelf_at, title_at, sizes_at, head_at}
 use Rattle.script.specs.Acts.{front_at, script_at, bad_line_of}
-use Rattle.script.specs.BadLine.{line_count, AreLines, LineForm, head_forms, HasForm, BeginsOf, Begins, IsWholeText, OnFirstLine, IsWhy, IsBadLine}
+use Rattle.script.specs.BadLine.{line_count, line_number, AreLines, LineForm, head_forms, HasForm, BeginsOf, Begins, IsWholeText, OnFirstLine, IsWhy, IsBadLine}
 use Rattle.script.proofs.Numbers.{bind_step, word_again}
 use Rattle.script.proofs.Heads.{keyed, title, on_line_again, keyed_again}
 use Rattle.script.proofs.Scripts.{not_bad}
@@ -68,7 +68,7 @@ bad_by lanes front rest f left begins lines why = record {
   rest = rest;
   text_is = refl;
   lines = lines;
-  number = ap (λ (n : ℕ). line_count (take (length (front ++ rest) - n) (front ++ rest)) + 1) left ∙ ap (λ (t : List ℕ). line_count t + 1) (front_is front rest);
+  number = ap (λ (n : ℕ). line_number (take (length (front ++ rest) - n) (front ++ rest))) left ∙ ap (λ (t : List ℕ). line_number t) (front_is front rest);
   begins = begins;
   why = why;
 }

@@ -6,11 +6,9 @@ use Rattle.std.proofs.lemmas.List.Sums.{sum_by-cons, sum_by-append}
 use Rattle.std.proofs.lemmas.Fmt.{digits_decimal}
 use Rattle.std.specs.List.{AllByRecursion, list_any}
 use Rattle.std.specs.Str.{all_ascii_digits}
-use Rattle.hex.specs.Hex.{encode_lower, encode_with, lower_digits}
 use Rattle.script.specs.Reading.{is_digit}
 use Rattle.script.specs.BadLine.{line_count, HasNoFeed, AreLines}
-use Rattle.script.proofs.Numbers.{own}
-use Rattle.script.proofs.Bytes.{glyph, lower-glyph}
+use Rattle.script.proofs.ValueLaws.{own}
 use Rattle.script.proofs.Forms.{either}
 
 pub feed : ℕ → ℕ
@@ -50,22 +48,6 @@ no_feed_digits (c ∷ cs) are =
 
 pub no_feed_decimal : (n : ℕ) → n < 2 ^ 64 → HasNoFeed (decimal n)
 no_feed_decimal n lt = no_feed_digits (decimal n) (digits_decimal own n lt)
-
-digit_no_feed : (v : ℕ) → v < 16 → slice_index lower_digits v ≢ 10
-digit_no_feed v lt e =
-    let g = lower-glyph v lt in
-    elim (cases_lt v 10) [
-      | inl low ↦ let h : glyph v ≡ 48 + v = rw (lt-ltb v 10 low) refl in omega (arith, g, h)
-      | inr high ↦ let h : glyph v ≡ 87 + v = rw (le-ltb v 10 high) refl in omega (arith, g, h)
-    ]
-
-pub no_feed_hex : (bytes : List ℕ) → AllByRecursion (λ b. b < 2 ^ 8) bytes → HasNoFeed (encode_lower bytes)
-unfolding encode_with
-no_feed_hex [] fit = refl
-no_feed_hex (b ∷ bytes) fit =
-    let small = fit.0 in
-    no_feed_cons (slice_index lower_digits (b / 16)) (slice_index lower_digits (b % 16) ∷ encode_with lower_digits bytes) (digit_no_feed (b / 16) (omega arith))
-    (no_feed_cons (slice_index lower_digits (b % 16)) (encode_with lower_digits bytes) (digit_no_feed (b % 16) (omega arith)) (no_feed_hex bytes fit.1))
 
 -- ---- lines
 

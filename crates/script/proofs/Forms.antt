@@ -13,6 +13,10 @@ use Rattle.script.proofs.Numbers.{bind_ok, bind_step, done, ok_is, parts_of, cho
 
 -- ---- steps
 
+pub answer : {A E : Type 0} (r : Result A E) → ((x : A) × (r ≡ Ok x)) ⊎ ((e : E) × (r ≡ Err e))
+answer (Ok x) = inl (x, refl)
+answer (Err e) = inr (e, refl)
+
 pub either : (b : Bool) → (b ≡ true) ⊎ (b ≡ false)
 either true = inl refl
 either false = inr refl

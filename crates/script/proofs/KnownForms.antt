@@ -14,8 +14,7 @@ use Rattle.script.proofs.Heads.{keyed, title}
 use Rattle.script.proofs.Feeds.{IsOneLine}
 use Rattle.script.proofs.BadHeads.{one_keyed, one_lane}
 use Rattle.script.proofs.HeadForms.{title_law}
-use Rattle.script.proofs.WholeLines.{line_one}
-use Rattle.script.proofs.ActWords.{decimal_numeral, act_is_words}
+use Rattle.script.proofs.WholeLines.{line_one, decimal_numeral, act_is_words}
 use Rattle.script.proofs.LineLists.{joined, AreOnes, joined_append}
 
 -- lines with the forms that are due, in order

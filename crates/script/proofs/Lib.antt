@@ -1,10 +1,11 @@
+pub mod WordLaws
+pub mod ValueLaws
+pub mod ActLaws
 pub mod Numbers
 pub mod Sets
-pub mod Many
 pub mod ActLoop
 pub mod Parts
 pub mod Heads
-pub mod Bytes
 pub mod ActLines
 pub mod Scripts
 pub mod Forms
@@ -14,11 +15,8 @@ pub mod HeadForms
 pub mod Begun
 pub mod BadHeads
 pub mod BadGroups
-pub mod ActForms
-pub mod LineForms
 pub mod WholeLines
 pub mod BadLimits
-pub mod ActWords
 pub mod BadActs
 pub mod LineLists
 pub mod KnownForms

@@ -2,7 +2,7 @@
 use Rattle.std.proofs.Common.{◌≡◌, ◌≢◌, ℕ, zero, suc, ◌+◌, ◌-◌, ◌*◌, ◌^◌, ◌<◌, ◌≤◌, ◌⊎◌, Bool, true, false, ◌&&◌, cond, nat_eq, take, drop, eqb, ltb, List, [], ◌∷◌, ◌++◌, length, get_or, Result, Ok, Err, refl, sym, ap, subst, ◌∙◌, arith, rules, inl, inr, decimal}
 use Rattle.std.proofs.lemmas.Bool.{ltb-true, lt-ltb, eqb-true, eqb-false, ne_eqb, false≢true, and_parts, and_from}
 use Rattle.std.proofs.lemmas.Bool.Decides.{nat_tests}
-use Rattle.std.proofs.lemmas.Str.Parse.{IsNumeralModel, numerals_by_fold}
+use Rattle.std.proofs.lemmas.Str.Parse.{IsNumeralModel}
 use Rattle.std.proofs.lemmas.Fmt.{digits_decimal, digits_value-decimal, decimal-digits_value, decimal_nonempty, first_decimal, decimal_digit}
 use Rattle.std.specs.Cmp.Lexicographic.{pointwise}
 use Rattle.std.specs.Str.{all_ascii_digits}
@@ -11,6 +11,7 @@ use Rattle.script.specs.declared.refusal.Why.TheVariants.{Form}
 use Rattle.script.specs.declared.number.Number.{Number}
 use Rattle.script.specs.declared.number.Number.TheVariants.{Within, Beyond}
 use Rattle.script.specs.Reading.{◌>>=◌, word_at, is_digit, with_digit, digits_from, number_at}
+use Rattle.script.proofs.ValueLaws.{read_on, own}
 
 -- ---- steps
 
@@ -75,13 +76,6 @@ pub word_no : (word text : List ℕ) → pointwise nat_eq (take (length word) te
 word_no word text other = word_is word text ∙ rw other refl
 
 -- ---- digits
-
-abbrev pub read_on : ℕ → List ℕ → ℕ
-read_on n [] = n
-read_on n (c ∷ cs) = read_on (n * 10 + (c - 48)) cs
-
-pub own : IsNumeralModel (λ ds. all_ascii_digits ds ≡ true) (read_on 0)
-own = numerals_by_fold _ (search rules) read_on (search rules)
 
 read_on-ge : (n : ℕ) (ds : List ℕ) → n ≤ read_on n ds
 read_on-ge n [] = omega arith

@@ -13,7 +13,7 @@ use Rattle.script.specs.declared.refusal.Fault.{Fault}
 use Rattle.script.specs.Reading.{told}
 use Rattle.script.specs.Lines.{keyed_at}
 use Rattle.script.specs.Acts.{script_at}
-use Rattle.script.specs.BadLine.{line_count, HasNoFeed, AreLines, head_forms, IsDue, HasForm, BeginsOf, Begins, IsWholeText, OnFirstLine, IsWhy, IsBadLine}
+use Rattle.script.specs.BadLine.{line_count, line_number, HasNoFeed, AreLines, head_forms, IsDue, HasForm, BeginsOf, Begins, IsWholeText, OnFirstLine, IsWhy, IsBadLine}
 use Rattle.script.proofs.Numbers.{ok_is, parts_of}
 use Rattle.script.proofs.Heads.{keyed, title, keyed_again}
 use Rattle.script.proofs.Scripts.{then_more, not_bad}
@@ -186,12 +186,12 @@ same_front a b m n xs rest ones number bm bn p q =
     ap (λ (k : ℕ). record { line = k; why = a.why }) number ∙ ap (λ (v : Why). record { line = b.line; why = v }) why
 
 -- the front of one goes on the other's
-longer_by : (a b : BadLine) (m n : ℕ) (f g : List ℕ) (r s : List ℕ) (xs ys zs : List (List ℕ)) → AreOnes xs → AreOnes ys → f ≡ joined xs → g ≡ joined ys → ys ≡ xs ++ zs → r ≡ joined zs ++ s → a.line ≡ line_count f + 1 → b.line ≡ line_count g + 1
+longer_by : (a b : BadLine) (m n : ℕ) (f g : List ℕ) (r s : List ℕ) (xs ys zs : List (List ℕ)) → AreOnes xs → AreOnes ys → f ≡ joined xs → g ≡ joined ys → ys ≡ xs ++ zs → r ≡ joined zs ++ s → a.line ≡ line_number f → b.line ≡ line_number g
     → BeginsOf m f → BeginsOf n g → IsWhy m f r a.why → IsWhy n g s b.why → a ≡ b
 longer_by a b m n f g r s xs ys [] ones oney fe ge le re na nb bm bn p q =
     let same : g ≡ f = ge ∙ ap joined (le ∙ append-nil xs) ∙ sym fe in
     let gx : g ≡ joined xs = same ∙ fe in
-    let number : a.line ≡ b.line = na ∙ ap (λ (t : List ℕ). line_count t + 1) (sym same) ∙ sym nb in
+    let number : a.line ≡ b.line = na ∙ ap (λ (t : List ℕ). line_number t) (sym same) ∙ sym nb in
     same_front a b m n xs s ones number (subst (λ (t : List ℕ). BeginsOf m t) fe bm) (subst (λ (t : List ℕ). BeginsOf n t) gx bn)
     (subst (λ (t : List ℕ). IsWhy m t s a.why) fe (subst (λ (t : List ℕ). IsWhy m f t a.why) re p)) (subst (λ (t : List ℕ). IsWhy n t s b.why) gx q)
 longer_by a b m n f g r s xs ys (z ∷ zs) ones oney fe ge le re na nb bm bn p q =
@@ -199,7 +199,7 @@ longer_by a b m n f g r s xs ys (z ∷ zs) ones oney fe ge le re na nb bm bn p q
     absurd (no_earlier m n xs z zs (joined zs ++ s) a.why ones all (subst (λ (t : List ℕ). BeginsOf m t) fe bm) (subst (λ (t : List ℕ). BeginsOf n t) (ge ∙ ap joined le) bn)
     (subst (λ (t : List ℕ). IsWhy m t (z ++ (joined zs ++ s)) a.why) fe (subst (λ (t : List ℕ). IsWhy m f t a.why) (re ∙ append_assoc z (joined zs) s) p)))
 
-on_longer : (a b : BadLine) (m n : ℕ) (f g : List ℕ) (r s : List ℕ) (xs ys : List (List ℕ)) → AreOnes xs → AreOnes ys → f ≡ joined xs → g ≡ joined ys → Longer xs ys r s → a.line ≡ line_count f + 1 → b.line ≡ line_count g + 1
+on_longer : (a b : BadLine) (m n : ℕ) (f g : List ℕ) (r s : List ℕ) (xs ys : List (List ℕ)) → AreOnes xs → AreOnes ys → f ≡ joined xs → g ≡ joined ys → Longer xs ys r s → a.line ≡ line_number f → b.line ≡ line_number g
     → BeginsOf m f → BeginsOf n g → IsWhy m f r a.why → IsWhy n g s b.why → a ≡ b
 on_longer a b m n f g r s xs ys ones oney fe ge l na nb bm bn p q = longer_by a b m n f g r s xs ys l.more ones oney fe ge l.lines l.parts na nb bm bn p q
 

@@ -16,7 +16,7 @@ use Rattle.script.specs.declared.refusal.Why.TheVariants.{Form, Range, More}
 use Rattle.script.specs.declared.refusal.Fault.{Fault}
 use Rattle.script.specs.Reading.{word_at, told}
 use Rattle.script.specs.Lines.{head_at, no_set}
-use Rattle.script.specs.Acts.{line_at, acts_at, ended_or, with_first, push_front, front_at, script_at}
+use Rattle.script.specs.Acts.{line_at, acts_at, ended_or, with_first, front_at, script_at}
 use Rattle.script.proofs.Numbers.{bind_ok, bind_step, ok_is, chosen, word_takes, word_again}
 use Rattle.script.proofs.Heads.{BeginsElse, head_takes, head_again}
 use Rattle.script.proofs.ActLines.{IsLine, line_takes, line_again}
@@ -67,7 +67,7 @@ acts_end head room text rest x e same =
 line_parts : (l f e r : List ℕ) → l ++ ((f ++ e) ++ r) ≡ ((l ++ f) ++ e) ++ r
 line_parts l f e r = simp append_assoc
 
-acts_more : (head : Head) (room : ℕ) (text : List ℕ) (a : (ℕ × Act) × List ℕ) (y x : List (ℕ × Act) × List ℕ) → IsLine head text a.0 a.1 → AreActs head room a.1 y.0 y.1 → push_front a.0 y ≡ x → AreActs head (suc room) text x.0 x.1
+acts_more : (head : Head) (room : ℕ) (text : List ℕ) (a : (ℕ × Act) × List ℕ) (y x : List (ℕ × Act) × List ℕ) → IsLine head text a.0 a.1 → AreActs head room a.1 y.0 y.1 → (a.0 ∷ y.0, y.1) ≡ x → AreActs head (suc room) text x.0 x.1
 acts_more head room text a y x line others same =
     let few = others.few in
     subst (λ (z : List (ℕ × Act) × List ℕ). AreActs head (suc room) text z.0 z.1) same
@@ -89,7 +89,7 @@ acts_take head (suc room) text x e =
       | inl h ↦ acts_end head (suc room) text h.0 x h.1 h.2
       | inr h ↦
           let y = bind_ok (acts_at room head h.0.1) _ x h.2 in
-          acts_more head room text h.0 y.0 x (line_takes head text h.0 h.1) (acts_take head room h.0.1 y.0 y.1) (ok_is {E = Fault} (push_front h.0.0 y.0) x y.2)
+          acts_more head room text h.0 y.0 x (line_takes head text h.0 h.1) (acts_take head room h.0.1 y.0 y.1) (ok_is {E = Fault} (h.0.0 ∷ y.0.0, y.0.1) x y.2)
     ]
 
 at_end : (room : ℕ) (head : Head) (rest : List ℕ) → acts_at room head (codes "end\n" ++ rest) ≡ Ok ([], rest)

@@ -1,11 +1,10 @@
-use Rattle.std.specs.Prelude.{◌≡◌, ◌⊎◌, ℕ, zero, suc, ◌+◌, ◌<◌, ◌≤◌, ◌^◌, true, List, [], ◌∷◌, ◌++◌, length, drop, slice_index, codes, count_by, Option, Some, None, ◌==◌}
-use Rattle.std.specs.List.{flat_map, AllByRecursion}
+use Rattle.std.specs.Prelude.{◌≡◌, ◌⊎◌, ℕ, zero, suc, ◌+◌, ◌-◌, ◌≤◌, ◌^◌, min, true, List, [], ◌∷◌, ◌++◌, length, drop, slice_index, codes, count_by, ◌==◌}
 use Rattle.std.specs.Str.{all_ascii_digits}
-use Rattle.hex.specs.Hex.{encode_lower}
-use Rattle.nvm_values.specs.declared.op.Op.{Op}
 use Rattle.nvm_model.specs.declared.script.Script.{Script}
-use Rattle.nvm_model.specs.ScriptText.{IsScript, script_text, op_word}
+use Rattle.nvm_model.specs.ScriptText.{IsScript, script_text}
 use Rattle.nvm_model.specs.Text.{field, last_field}
+use Rattle.script.specs.Words.{words_of}
+use Rattle.script.specs.ActWords.{is_act_form}
 use Rattle.script.specs.declared.refusal.BadLine.{BadLine}
 use Rattle.script.specs.declared.refusal.ParseRefusal.{ParseRefusal}
 use Rattle.script.specs.declared.refusal.ParseRefusal.TheVariants.{Bad, OutOfMemory}
@@ -16,6 +15,10 @@ use Rattle.script.specs.declared.refusal.Why.TheVariants.{Form, Range, Cut, More
 
 abbrev pub line_count : List ℕ → ℕ
 line_count text = count_by (λ c. c == 10) text
+
+-- the number of the line behind the front, counted from 1
+abbrev pub line_number : List ℕ → ℕ
+line_number front = min (line_count front + 1) (2 ^ 32 - 1)
 
 abbrev pub HasNoFeed : List ℕ → Type 0
 HasNoFeed text = line_count text ≡ 0
@@ -38,43 +41,6 @@ spaced_word n = n ++ 32 ∷ []
 abbrev pub last_word : List ℕ → List ℕ
 last_word n = n ++ 10 ∷ []
 
--- what stands in an act's line behind its lane, its numbers as they are written
-pub data ActWords : Type 0 where
-  Fill : List ℕ → ℕ → ActWords
-  Poke : List ℕ → List ℕ → List ℕ → ActWords
-  PrpList : List ℕ → List (List ℕ) → ActWords
-  Submit : List ℕ → Op → List ℕ → List ℕ → Option (List ℕ) → Option (List ℕ) → ActWords
-  Raw : List ℕ → ActWords
-  Wait : ActWords
-  Idle : ActWords
-
--- a data page, or none
-abbrev pub option_word : Option (List ℕ) → List ℕ
-option_word None = codes "-"
-option_word (Some page) = page
-
-abbrev pub words_text : ActWords → List ℕ
-words_text (Fill page byte) = codes "fill " ++ spaced_word page ++ encode_lower (byte ∷ []) ++ codes "\n"
-words_text (Poke page at bytes) = codes "poke " ++ spaced_word page ++ spaced_word at ++ encode_lower bytes ++ codes "\n"
-words_text (PrpList page named) = codes "list " ++ page ++ flat_map (λ p. 32 ∷ p) named ++ codes "\n"
-words_text (Submit cid op slba count p1 p2) = codes "submit " ++ spaced_word cid ++ op_word op ++ spaced_word slba ++ spaced_word count ++ spaced_word (option_word p1) ++ last_word (option_word p2)
-words_text (Raw entry) = codes "raw " ++ encode_lower entry ++ codes "\n"
-words_text Wait = codes "wait\n"
-words_text Idle = codes "idle\n"
-
-abbrev pub IsOptionWord : Option (List ℕ) → Type 0
-IsOptionWord None = Unit {0}
-IsOptionWord (Some page) = IsNumeral page
-
-abbrev pub AreWords : ActWords → Type 0
-AreWords (Fill page byte) = IsNumeral page × (byte < 2 ^ 8)
-AreWords (Poke page at bytes) = IsNumeral page × IsNumeral at × (1 ≤ length bytes) × (length bytes ≤ 32) × AllByRecursion (λ byte. byte < 2 ^ 8) bytes
-AreWords (PrpList page named) = IsNumeral page × (1 ≤ length named) × (length named ≤ 8) × AllByRecursion IsNumeral named
-AreWords (Submit cid op slba count p1 p2) = IsNumeral cid × IsNumeral slba × IsNumeral count × IsOptionWord p1 × IsOptionWord p2
-AreWords (Raw entry) = (length entry ≡ 64) × AllByRecursion (λ byte. byte < 2 ^ 8) entry
-AreWords Wait = Unit {0}
-AreWords Idle = Unit {0}
-
 -- a line of a word and a number
 abbrev pub IsKeyedLine : List ℕ → List ℕ → Type 0
 IsKeyedLine key line = (n : List ℕ) × IsNumeral n × (line ≡ key ++ last_word n)
@@ -86,7 +52,7 @@ IsLaneLine k line = (sq : List ℕ) × (cq : List ℕ) × (pages : List ℕ) × 
 
 -- a line of an act, of any lane
 abbrev pub IsActWords : List ℕ → Type 0
-IsActWords line = (lane : List ℕ) × (w : ActWords) × IsNumeral lane × AreWords w × (line ≡ spaced_word lane ++ words_text w)
+IsActWords line = (words : List ℕ) × (line ≡ words ++ 10 ∷ []) × HasNoFeed words × (is_act_form (words_of words) ≡ true)
 
 -- an act, or the end
 abbrev pub IsBodyLine : List ℕ → Type 0
@@ -166,7 +132,8 @@ pub record IsBadLine (text : List ℕ) (bad : BadLine) : Type 0 where
   pub rest : List ℕ
   pub text_is : text ≡ front ++ rest
   pub lines : AreLines front
-  pub number : bad.line ≡ line_count front + 1
+  -- it stands still at the largest number that has 32 bits
+  pub number : bad.line ≡ line_number front
   pub begins : BeginsOf lanes front
   pub why : IsWhy lanes front rest bad.why
 

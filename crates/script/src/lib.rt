@@ -3,7 +3,7 @@
 //! with its cause. `parse_front` does so with the front of a text, whatever stands behind it.
 #![tactic(auto)]
 
-ghost use Rattle.std.specs.Prelude.{◌≡◌, ◌≤◌, ◌-◌, ◌^◌, ◌⊎◌, ℕ, List, ◌++◌, length, take, IfOk, IfErr, Ok, Err};
+ghost use Rattle.std.specs.Prelude.{◌≡◌, ◌≤◌, ◌⊎◌, ℕ, List, ◌++◌, length, take, IfOk, IfErr, Ok, Err};
 ghost use Rattle.nvm_model.specs.ScriptText.{IsScript, script_text};
 ghost use Rattle.nvm_model.specs.declared.script.Script.{Script};
 ghost use Rattle.script.specs.Acts.{bad_line_of};
@@ -12,9 +12,12 @@ ghost use Rattle.script.specs.declared.refusal.BadLine.{BadLine};
 
 mod act;
 mod acts;
+mod form;
 mod head;
+mod line;
 mod number;
 mod refusal;
+mod value;
 mod write;
 
 use acts::{read_front, read_script};
@@ -24,22 +27,20 @@ use refusal::{Fault, Refusal};
 use std::alloc::Global;
 pub use write::write_script;
 
-/// The line at which so many bytes are left, counted from 1.
+/// The line at which so many bytes are left, counted from 1. Its number stands still at the largest that has 32 bits.
 fn bad_line(text: &[u8], fault: Fault) -> BadLine
-    requires { length text.now ≤ 2 ^ 32 - 2 }
     ensures { result ≡ bad_line_of text.now fault }
 {
     let front = &text[..text.len().saturating_sub(fault.left)];
     let before = front.iter().filter(|byte| **byte == b'\n').count();
     BadLine {
-        line: before as u32 + 1,
+        line: before.saturating_add(1).min(u32::MAX as usize) as u32,
         why: fault.why,
     }
 }
 
 /// Reads a script.
 pub fn parse(alloc: Global, text: &[u8]) -> Result<Script, ParseRefusal>
-    requires { length text.now ≤ 2 ^ 32 - 2 }
     // What is read is spelled so, each byte of it, and in range.
     ensures found { IfOk result (λ s. IsScript s × (text.now ≡ script_text s)) }
     // What is spelled so is read, unless memory runs out.
@@ -61,7 +62,6 @@ pub fn parse(alloc: Global, text: &[u8]) -> Result<Script, ParseRefusal>
 
 /// Reads a script at the front of a text, and answers where the bytes behind its line `end` begin.
 pub fn parse_front(alloc: Global, text: &[u8]) -> Result<(Script, usize), ParseRefusal>
-    requires { length text.now ≤ 2 ^ 32 - 2 }
     // What is read is spelled by the front of the text, each byte of it, and in range.
     ensures found { IfOk result (λ x. IsScript x.0 × (x.1 ≤ length text.now) × (take x.1 text.now ≡ script_text x.0)) }
     // A script that the front of the text spells is read, unless memory runs out.
