@@ -1,10 +1,10 @@
 -- Acts: the words that are read are those of the act, and its words are read again, have their form, and make its line.
-use Rattle.std.proofs.Common.{◌≡◌, ◌≢◌, ℕ, zero, suc, ◌+◌, ◌-◌, ◌*◌, ◌/◌, ◌%◌, ◌^◌, ◌<◌, ◌≤◌, ◌⊎◌, Bool, true, false, ◌&&◌, ◌||◌, cond, eqb, ltb, leb, is_some, List, [], ◌∷◌, ◌++◌, length, get_or, set, take, drop, replicate, slice_index, codes, Option, Some, None, refl, sym, ap, subst, ◌∙◌, append_assoc, arith, inl, inr, decimal}
+use Rattle.std.proofs.Common.{◌≡◌, ℕ, zero, suc, ◌+◌, ◌-◌, ◌/◌, ◌%◌, ◌^◌, ◌<◌, ◌≤◌, true, false, ◌&&◌, cond, eqb, ltb, leb, is_some, List, [], ◌∷◌, ◌++◌, length, set, take, drop, replicate, slice_index, codes, Option, Some, None, refl, sym, ap, subst, ◌∙◌, append_assoc, arith, inl, inr, decimal}
 use Rattle.std.specs.Prelude.{map}
-use Rattle.std.specs.List.{AllByRecursion, All, flat_map, list_all}
+use Rattle.std.specs.List.{AllByRecursion, All, flat_map}
 use Rattle.std.specs.Str.{bytes_eq}
 use Rattle.std.proofs.lemmas.Bool.{ltb-true, lt-ltb, leb-true, eqb-false, ne_eqb, and_parts, and_from}
-use Rattle.std.proofs.lemmas.List.{append-nil, take_at, take_more_set, drop-set-lt, drop-drop, drop-replicate, drop_more, drop_all, take-append-drop, length-set, length-append, length-map, length-replicate, length-take-le, take_all}
+use Rattle.std.proofs.lemmas.List.{append-nil, take_at, take_more_set, drop-set-lt, drop-replicate, take-append-drop, length-set, length-append, length-replicate, length-take-le}
 use Rattle.std.proofs.lemmas.List.Elements.{All-from_recursion, recursion_from_All, All-take, All-append, All-replicate}
 use Rattle.hex.specs.Hex.{encode_lower, lower_digits}
 use Rattle.hex.proofs.HexLemmas.{length-encode_with}
@@ -14,11 +14,9 @@ use Rattle.nvm_model.specs.declared.script.Act.{Act}
 use Rattle.nvm_model.specs.declared.script.Act.TheVariants.{Fill, Poke, List as PrpList, Submit, Raw, Wait, Idle}
 use Rattle.nvm_model.specs.declared.script.Head.{Head}
 use Rattle.nvm_model.specs.World.{set_of}
-use Rattle.nvm_model.specs.Text.{field}
 use Rattle.nvm_model.specs.ScriptText.{act_line, op_word, page_word, IsPage, IsAct, IsActLine}
-use Rattle.script.specs.declared.form.Piece.{Piece}
-use Rattle.script.specs.declared.form.Piece.TheVariants.{Numeral, Page, Command, Hex, Maybe}
-use Rattle.script.specs.Words.{◌>>=◌, next, last, alone, number_in, ranged_in, page_in, option_in, is_hex, bytes_in, op_in, is_numeral, has_form, may_miss, is_row}
+use Rattle.script.specs.declared.form.Piece.TheVariants.{Maybe}
+use Rattle.script.specs.Words.{◌>>=◌, next, last, number_in, ranged_in, page_in, option_in, is_hex, bytes_in, op_in, is_numeral, is_row}
 use Rattle.script.specs.ActWords.{fill_in, place_in, poke_in, pages_on, list_in, SubmitWords, submit_words, submit_of, submit_in, raw_in, bare_in, act_in, line_in, act_form, kind_form, is_act_form}
 use Rattle.script.proofs.WordLaws.{bind_some, bind_step, some_is, chosen, IsPlain, spaced}
 use Rattle.script.proofs.ValueLaws.{number_takes, number_again, numeral_again, ranged_takes, ranged_again, page_takes, page_again, decimal_plain, AreBytesIn, bytes_take, bytes_again, hex_again, hex_plain, is_text, page_text, IsBelow, option_takes, option_again, option_form, option_plain, op_text, op_takes, op_again, op_plain}

@@ -1,11 +1,10 @@
 -- Words with a value: what is read is spelled so, and what is spelled so is read and has its form.
-use Rattle.std.proofs.Common.{◌≡◌, ◌≢◌, ℕ, zero, suc, ◌+◌, ◌-◌, ◌*◌, ◌/◌, ◌%◌, ◌^◌, ◌<◌, ◌≤◌, ◌⊎◌, Bool, true, false, ◌&&◌, ◌||◌, cond, eqb, ltb, leb, List, [], ◌∷◌, ◌++◌, length, get_or, slice_index, codes, Option, Some, None, unwrap_or, Result, Ok, Err, refl, sym, ap, subst, ◌∙◌, arith, rules, inl, inr, decimal}
+use Rattle.std.proofs.Common.{◌≡◌, ℕ, zero, suc, ◌+◌, ◌-◌, ◌*◌, ◌/◌, ◌%◌, ◌^◌, ◌<◌, ◌≤◌, Bool, true, false, ◌&&◌, ◌||◌, cond, eqb, ltb, leb, List, [], ◌∷◌, length, get_or, slice_index, codes, Option, Some, None, unwrap_or, Result, Ok, Err, refl, sym, ap, subst, ◌∙◌, arith, rules, inl, inr, decimal}
 use Rattle.std.specs.List.{AllByRecursion, list_all}
 use Rattle.std.specs.Str.{all_ascii_digits, bytes_eq}
-use Rattle.std.proofs.lemmas.Bool.{ltb-true, lt-ltb, leb-true, le-leb, eqb-true, eqb-false, eq-eqb, ne_eqb, and_parts, and_from, or_cases, or_left, or_right, cases_lt, false_from_ne_true}
+use Rattle.std.proofs.lemmas.Bool.{ltb-true, lt-ltb, leb-true, le-leb, eqb-true, eqb-false, ne_eqb, and_parts, and_from, or_cases, or_right, cases_lt, false_from_ne_true}
 use Rattle.std.proofs.lemmas.Slice.Eq.{bytes_eq-Decides}
 use Rattle.std.proofs.lemmas.Str.Parse.{IsNumeralModel, numerals_by_fold}
-use Rattle.std.proofs.lemmas.List.Elements.{All-from_recursion}
 use Rattle.std.proofs.lemmas.Nat.{div-mul-add, mod-mul-add}
 use Rattle.std.proofs.lemmas.Fmt.{digits_decimal, digits_value-decimal, decimal-digits_value, decimal_nonempty, first_decimal, decimal_digit}
 use Rattle.hex.specs.Hex.{IsBytes, decode_sized, decode_pairs, pair_value, value_at, digit_or_error, hex_digit_value, encode_lower, encode_with, lower_digits, ◌>>=◌ as ◌then◌}
@@ -14,7 +13,6 @@ use Rattle.hex.proofs.Pairs.{decode_sized-pairs}
 use Rattle.hex.proofs.HexLemmas.{length-encode_with, decode_pairs-encode_with, IsDigits-lower_digits}
 use Rattle.nvm_values.specs.declared.op.Op.{Op}
 use Rattle.nvm_values.specs.declared.op.Op.TheVariants.{Flush, Write, Read, Compare, WriteZeroes, Verify}
-use Rattle.script.specs.declared.form.Piece.TheVariants.{Numeral}
 use Rattle.script.specs.Words.{◌>>=◌, is_digit, are_digits, are_lower_digits, with_digit, digits_on, number_in, ranged_in, page_in, option_in, is_lower_digit, is_hex, decoded, bytes_in, op_in, is_numeral}
 use Rattle.script.proofs.WordLaws.{bind_some, bind_step, some_is, chosen, is_plain, IsPlain}
 
@@ -107,14 +105,14 @@ numeral_from (c ∷ d ∷ cs) w = rw (no_zero c d cs w) (digits_are (c ∷ d ∷
 pub numeral_again : (n : ℕ) → n < 2 ^ 64 → is_numeral (decimal n) ≡ true
 numeral_again n lt = numeral_from (decimal n) (written n lt)
 
-pub ranged_takes : (low high : ℕ) (w : List ℕ) (n : ℕ) → ranged_in low high w ≡ Some n → (w ≡ decimal n) × (low ≤ n) × (n ≤ high)
+pub ranged_takes : (low high : ℕ) (w : List ℕ) (n : ℕ) → ranged_in low high w ≡ Some n → (w ≡ decimal n) × (low ≤ n) × (n ≤ high) × (n < 2 ^ 64)
 ranged_takes low high w n e =
     let b = bind_some (number_in w) _ n e in
     elim (chosen (leb low b.0 && leb b.0 high) (Some b.0) None (Some n) b.2) [
       | inl h ↦
           let p = and_parts (leb low b.0) (leb b.0 high) h.0 in
           let same = some_is b.0 n h.1 in
-          ((number_takes w b.0 b.1).0 ∙ ap decimal same, rw (← same) (leb-true low b.0 p.0), rw (← same) (leb-true b.0 high p.1))
+          ((number_takes w b.0 b.1).0 ∙ ap decimal same, rw (← same) (leb-true low b.0 p.0), rw (← same) (leb-true b.0 high p.1), rw (← same) (number_takes w b.0 b.1).1)
       | inr h ↦ absurd cc
     ]
 

@@ -1,7 +1,7 @@
-pub mod Reading
 pub mod Words
-pub mod Lines
 pub mod ActWords
-pub mod Acts
+pub mod Keys
+pub mod Lines
 pub mod BadLine
+pub mod Reads
 pub mod Writing

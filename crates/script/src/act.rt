@@ -1,15 +1,10 @@
-//! The acts of a script, line by line.
+//! The acts of a script, by the words of their lines.
 
 ghost use Rattle.std.specs.Prelude.{◌≡◌, ℕ, ◌≤◌, ◌<◌, replicate, length};
-ghost use Rattle.script.specs.Reading.{Reads as ReadsOr};
-ghost use Rattle.script.specs.Words.{Reads};
 ghost use Rattle.script.specs.ActWords.{fill_in, poke_in, pages_on, list_in, submit_in, raw_in, act_in, line_in, act_form, is_act_form};
-ghost use Rattle.script.specs.Acts.{line_form, line_at};
-ghost use Rattle.nvm_model.specs.World.{set_of};
 
 use crate::form::{Piece, is_hex, is_numeral, is_row};
-use crate::line::{Words, cut};
-use crate::refusal::{Fault, Why, fault_at};
+use crate::line::Words;
 use crate::value::{bytes, number, op, option_in, page_in, ranged};
 use nvm_model::{Act, Head};
 
@@ -162,7 +157,7 @@ fn act(kind: &[u8], words: &Words, pages: u16) -> Option<Act>
 
 /// A lane's number and its act.
 #[tactic(auto, unfolding(crate::specs::ActWords::line_in))]
-fn lane_act(head: &Head, words: &Words) -> Option<(u8, Act)>
+pub fn lane_act(head: &Head, words: &Words) -> Option<(u8, Act)>
     ensures { result ≡ line_in head.now words.now }
 {
     let (lane, rest) = words.next()?;
@@ -203,7 +198,7 @@ fn act_form(kind: &[u8], words: &Words) -> bool
 }
 
 /// Whether the words have the form of an act's line.
-fn is_act_form(words: &Words) -> bool
+pub fn is_act_form(words: &Words) -> bool
     ensures { result ≡ is_act_form words.now }
 {
     let Some((lane, rest)) = words.next() else {
@@ -216,27 +211,4 @@ fn is_act_form(words: &Words) -> bool
         Some((kind, rest)) => act_form(kind, &rest),
         None => false,
     }
-}
-
-#[tactic(auto, unfolding(crate::specs::Acts::line_form))]
-fn line_form<'a>(head: &Head, text: &'a [u8]) -> Result<((u8, Act), &'a [u8]), Why>
-    ensures { ReadsOr (λ x. (x.0, x.1.now)) result (line_form head.now text.now) }
-{
-    let Some((line, rest)) = cut(text, b'\n') else {
-        return Err(Why::Form);
-    };
-    let words = Words::new(line);
-    match lane_act(head, &words) {
-        Some(act) => Ok((act, rest)),
-        None if is_act_form(&words) => Err(Why::Range),
-        None => Err(Why::Form),
-    }
-}
-
-/// A line of a lane and its act.
-#[tactic(auto, unfolding(crate::specs::Acts::line_at))]
-pub fn act_line<'a>(head: &Head, text: &'a [u8]) -> Result<((u8, Act), &'a [u8]), Fault>
-    ensures { ReadsOr (λ x. (x.0, x.1.now)) result (line_at head.now text.now) }
-{
-    line_form(head, text).map_err(|why| fault_at(text, why))
 }

@@ -6,38 +6,24 @@
 ghost use Rattle.std.specs.Prelude.{◌≡◌, ◌≤◌, ◌⊎◌, ℕ, List, ◌++◌, length, take, IfOk, IfErr, Ok, Err};
 ghost use Rattle.nvm_model.specs.ScriptText.{IsScript, script_text};
 ghost use Rattle.nvm_model.specs.declared.script.Script.{Script};
-ghost use Rattle.script.specs.Acts.{bad_line_of};
 ghost use Rattle.script.specs.BadLine.{IsBadLine, IsRefusedAt, IsFrontRefused};
 ghost use Rattle.script.specs.declared.refusal.BadLine.{BadLine};
 
 mod act;
-mod acts;
 mod form;
 mod head;
+mod key;
 mod line;
-mod number;
+mod reader;
 mod refusal;
 mod value;
 mod write;
 
-use acts::{read_front, read_script};
 pub use nvm_model::{Act, Acts, Head, LaneSet, Script};
+use reader::read_front;
 pub use refusal::{BadLine, ParseRefusal, Why};
-use refusal::{Fault, Refusal};
 use std::alloc::Global;
 pub use write::write_script;
-
-/// The line at which so many bytes are left, counted from 1. Its number stands still at the largest that has 32 bits.
-fn bad_line(text: &[u8], fault: Fault) -> BadLine
-    ensures { result ≡ bad_line_of text.now fault }
-{
-    let front = &text[..text.len().saturating_sub(fault.left)];
-    let before = front.iter().filter(|byte| **byte == b'\n').count();
-    BadLine {
-        line: before.saturating_add(1).min(u32::MAX as usize) as u32,
-        why: fault.why,
-    }
-}
 
 /// Reads a script.
 pub fn parse(alloc: Global, text: &[u8]) -> Result<Script, ParseRefusal>
@@ -50,13 +36,15 @@ pub fn parse(alloc: Global, text: &[u8]) -> Result<Script, ParseRefusal>
     // There is at most one such line, and it is told, unless memory runs out.
     ensures told { (bad : BadLine) → IsBadLine text.now bad → (result ≡ Err (ParseRefusal.Bad bad)) ⊎ (result ≡ Err ParseRefusal.OutOfMemory) }
 {
-    match read_script(alloc, text) {
-        Ok((head, acts)) => Ok(Script {
-            head,
-            acts: Acts::new(acts),
-        }),
-        Err(Refusal::Memory) => Err(ParseRefusal::OutOfMemory),
-        Err(Refusal::Fault(fault)) => Err(ParseRefusal::Bad(bad_line(text, fault))),
+    match read_front(alloc, text) {
+        Ok((reader, rest, line)) => {
+            if !rest.is_empty() {
+                let why = Why::More;
+                return Err(ParseRefusal::Bad(BadLine { line, why }));
+            }
+            Ok(reader.script())
+        }
+        Err(refusal) => Err(refusal),
     }
 }
 
@@ -70,13 +58,11 @@ pub fn parse_front(alloc: Global, text: &[u8]) -> Result<(Script, usize), ParseR
     ensures bad { IfErr result (λ refusal. IsFrontRefused text.now refusal) }
 {
     match read_front(alloc, text) {
-        Ok((head, acts, rest)) => {
-            let acts = Acts::new(acts);
+        Ok((reader, rest, _)) => {
             let end = text.len().saturating_sub(rest.len());
-            Ok((Script { head, acts }, end))
+            Ok((reader.script(), end))
         }
-        Err(Refusal::Memory) => Err(ParseRefusal::OutOfMemory),
-        Err(Refusal::Fault(fault)) => Err(ParseRefusal::Bad(bad_line(text, fault))),
+        Err(refusal) => Err(refusal),
     }
 }
 

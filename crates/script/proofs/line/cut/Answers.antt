@@ -1,4 +1,4 @@
-use Rattle.std.proofs.Common.{◌<◌, length, arith}
+use Rattle.std.proofs.Common.{arith}
 use Rattle.std.proofs.lemmas.List.{take_rest}
 use Rattle.script.proofs.WordLaws.{cut_found, cut_nowhere}
 use Rattle.script.proofs.line.cut.Goals as goal
