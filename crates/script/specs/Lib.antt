@@ -1,5 +1,7 @@
-pub mod Reading
+pub mod Words
+pub mod ActWords
+pub mod Keys
 pub mod Lines
-pub mod Acts
 pub mod BadLine
+pub mod Reads
 pub mod Writing

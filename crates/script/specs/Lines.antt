@@ -1,115 +1,146 @@
-use Rattle.std.specs.Prelude.{ℕ, zero, suc, ◌+◌, ◌-◌, ◌/◌, ◌%◌, ◌&&◌, List, [], ◌∷◌, ◌++◌, replicate, codes, Option, Some, None, Result, Ok, Err, nat_le, ◌==◌, if◌then◌else◌}
+use Rattle.std.specs.Prelude.{ℕ, zero, suc, ◌+◌, ◌&&◌, ◌||◌, Bool, false, List, [], ◌∷◌, ◌++◌, length, replicate, slice_set, codes, Option, Some, None, nat_lt, ◌==◌, if◌then◌else◌}
+use Rattle.std.specs.Str.{bytes_eq}
+use Rattle.nvm_model.specs.declared.script.Act.{Act}
 use Rattle.nvm_model.specs.declared.script.Head.{Head}
 use Rattle.nvm_model.specs.declared.script.LaneSet.{LaneSet}
-use Rattle.script.specs.declared.refusal.Why.{Why}
-use Rattle.script.specs.declared.refusal.Why.TheVariants.{Range}
-use Rattle.script.specs.declared.refusal.Fault.{Fault}
-use Rattle.script.specs.declared.head.Sizes.{Sizes}
-use Rattle.script.specs.declared.head.Pace.{Pace}
-use Rattle.script.specs.declared.head.Bounds.{Bounds}
-use Rattle.script.specs.declared.head.Limits.{Limits}
-use Rattle.script.specs.Reading.{◌>>=◌, word_at, named_at, ranged, told, on_line}
+use Rattle.nvm_model.specs.declared.script.Script.{Script}
+use Rattle.script.specs.declared.key.Key.{Key}
+use Rattle.script.specs.declared.key.Key.TheVariants.{Blocks, Burst}
+use Rattle.script.specs.declared.key.Due.{Due}
+use Rattle.script.specs.declared.key.Due.TheVariants.{Title, Number, Lane, Behind, Body, Done}
+use Rattle.script.specs.Words.{◌>>=◌, words_of, next, last, ranged_in, is_numeral}
+use Rattle.script.specs.Keys.{key_word, with_number, lowest, highest, are_shelves, after}
+use Rattle.script.specs.ActWords.{line_in, is_act_form}
 
--- The lines of a head.
+-- Line by line: which line is due, its form, and what it adds to what was read.
 
--- a line of a word and a number
-unfoldable pub keyed_form : List ℕ → ℕ → ℕ → List ℕ → Result (ℕ × List ℕ) Why
-keyed_form key low high text = do
-  n ← named_at key 10 text
-  v ← ranged low high n.0
-  Ok (v, n.1)
+abbrev pub title : List ℕ
+title = codes "nvmigrate script 1"
 
-unfoldable pub keyed_at : List ℕ → ℕ → ℕ → List ℕ → Result (ℕ × List ℕ) Fault
-keyed_at key low high text = on_line text (keyed_form key low high text)
+-- the words behind a first one
+abbrev pub lead : List ℕ → List (List ℕ) → Option (List (List ℕ))
+lead word ws = next ws >>= λ w. if bytes_eq w.0 word then Some w.1 else None
 
--- the shelves, at most 64, are equally long
-unfoldable pub shelf_at : ℕ → List ℕ → Result (ℕ × List ℕ) Fault
-shelf_at blocks text = do
-  shelf ← keyed_at (codes "shelf ") 1 65536 text
-  if blocks % shelf.0 == 0 && nat_le (blocks / shelf.0) 64 then Ok shelf else Err (told text Range)
+-- a line of a word and another
+abbrev pub keyed : List ℕ → List (List ℕ) → Option (List ℕ)
+keyed word ws = lead word ws >>= last
 
-unfoldable pub title_at : List ℕ → Result (List ℕ) Fault
-title_at text = on_line text (word_at (codes "nvmigrate script 1\n") text)
-
-unfoldable pub sizes_at : List ℕ → Result (Sizes × List ℕ) Fault
-sizes_at text = do
-  rest ← title_at text
-  blocks ← keyed_at (codes "blocks ") 1 131072 rest
-  shelf ← shelf_at blocks.0 blocks.1
-  lanes ← keyed_at (codes "lanes ") 1 8 shelf.1
-  Ok (record { blocks = blocks.0; shelf = shelf.0; lanes = lanes.0 }, lanes.1)
+-- the words of a lane's numbers
+pub record LaneWords : Type 0 where
+  pub sq : List ℕ
+  pub cq : List ℕ
+  pub pages : List ℕ
 
 -- the line of lane k, which has one digit
-unfoldable pub lane_form : ℕ → List ℕ → Result (LaneSet × List ℕ) Why
-lane_form k text = do
-  a ← word_at (codes "lane ") text
-  b ← word_at ((48 + k) ∷ 32 ∷ []) a
-  sq ← named_at (codes "sq ") 32 b
-  cq ← named_at (codes "cq ") 32 sq.1
-  pages ← named_at (codes "pages ") 10 cq.1
-  s ← ranged 2 64 sq.0
-  c ← ranged 2 256 cq.0
-  p ← ranged 1 256 pages.0
-  Ok (record { sq = s; cq = c; pages = p }, pages.1)
+unfoldable pub lane_words : ℕ → List (List ℕ) → Option LaneWords
+lane_words k ws = do
+  a ← lead (codes "lane") ws
+  b ← lead ((48 + k) ∷ []) a
+  c ← lead (codes "sq") b
+  sq ← next c
+  d ← lead (codes "cq") sq.1
+  cq ← next d
+  pages ← keyed (codes "pages") cq.1
+  Some (record { sq = sq.0; cq = cq.0; pages = pages })
 
-unfoldable pub lane_at : ℕ → List ℕ → Result (LaneSet × List ℕ) Fault
-lane_at k text = on_line text (lane_form k text)
+unfoldable pub set_of : LaneWords → Option LaneSet
+set_of w = do
+  sq ← ranged_in 2 64 w.sq
+  cq ← ranged_in 2 256 w.cq
+  pages ← ranged_in 1 256 w.pages
+  Some (record { sq = sq; cq = cq; pages = pages })
 
--- the lines of n lanes, the first of them lane k
-unfoldable pub lanes_at : ℕ → ℕ → List ℕ → Result (List LaneSet × List ℕ) Fault
-lanes_at zero k text = Ok ([], text)
-lanes_at (suc n) k text = do
-  set ← lane_at k text
-  sets ← lanes_at n (k + 1) set.1
-  Ok (set.0 ∷ sets.0, sets.1)
+abbrev pub set_in : ℕ → List (List ℕ) → Option LaneSet
+set_in k ws = lane_words k ws >>= set_of
+
+-- ---- forms
+
+abbrev pub is_number : Option (List ℕ) → Bool
+is_number None = false
+is_number (Some w) = is_numeral w
+
+abbrev pub are_numbers : Option LaneWords → Bool
+are_numbers None = false
+are_numbers (Some w) = is_numeral w.sq && is_numeral w.cq && is_numeral w.pages
+
+abbrev pub is_body : List ℕ → Bool
+is_body line = bytes_eq line (codes "end") || is_act_form (words_of line)
+
+-- the form of the line that is due
+abbrev pub is_due : Due → List ℕ → Bool
+is_due Title line = bytes_eq line title
+is_due (Number key) line = is_number (keyed (key_word key) (words_of line))
+is_due (Lane k) line = nat_lt k 8 && are_numbers (lane_words (k + 1) (words_of line))
+is_due Behind line = is_number (keyed (codes "migrate") (words_of line)) || is_body line
+is_due Body line = is_body line
+is_due Done line = false
+
+-- which line is due behind one, in a script with so many lanes
+abbrev pub due_next : ℕ → Due → Due
+due_next lanes Title = Number Blocks
+due_next lanes (Number key) = after key
+due_next lanes (Lane k) = if k + 1 == lanes then Number Burst else Lane (k + 1)
+due_next lanes Behind = Body
+due_next lanes Body = Body
+due_next lanes Done = Done
+
+-- which line is due behind so many
+unfoldable pub due_at : ℕ → ℕ → Due
+due_at lanes zero = Title
+due_at lanes (suc n) = due_next lanes (due_at lanes n)
+
+-- ---- what was read
+
+pub record State : Type 0 where
+  pub due : Due
+  pub head : Head
+  pub acts : List (ℕ × Act)
+
+abbrev pub script_of : State → Script
+script_of s = record { head = s.head; acts = s.acts }
 
 abbrev pub no_set : LaneSet
 no_set = record { sq = 0; cq = 0; pages = 0 }
 
-unfoldable pub pace_at : List ℕ → Result (Pace × List ℕ) Fault
-pace_at text = do
-  burst ← keyed_at (codes "burst ") 1 64 text
-  mix ← keyed_at (codes "mix ") 0 4294967295 burst.1
-  change ← keyed_at (codes "change ") 2 65536 mix.1
-  Ok (record { burst = burst.0; mix = mix.0; change = change.0 }, change.1)
+abbrev pub no_head : Head
+no_head = record { blocks = 0; shelf = 0; lanes = 0; sets = replicate 8 no_set; burst = 0; mix = 0; change = 0; slice = 0; small = 0; pages = 0; patience = 0; migrate = None }
 
-unfoldable pub bounds_at : ℕ → List ℕ → Result (Bounds × List ℕ) Fault
-bounds_at blocks text = do
-  slice ← keyed_at (codes "slice ") 1 blocks text
-  small ← keyed_at (codes "small ") slice.0 blocks slice.1
-  Ok (record { slice = slice.0; small = small.0 }, small.1)
+abbrev pub start : State
+start = record { due = Title; head = no_head; acts = [] }
 
-abbrev pub migrate_by : Result (List ℕ) Why → List ℕ → Result (Option ℕ × List ℕ) Fault
-migrate_by (Err why) text = Ok (None, text)
-migrate_by (Ok rest) text = do
-  turn ← keyed_at (codes "migrate ") 1 65535 text
-  Ok (Some turn.0, turn.1)
+abbrev pub number_in : Key → Head → List ℕ → Option ℕ
+number_in key h line = do
+  w ← keyed (key_word key) (words_of line)
+  n ← ranged_in (lowest key h) (highest key h) w
+  if are_shelves key n h then Some n else None
 
--- the line `migrate T`, or none
-unfoldable pub migrate_at : List ℕ → Result (Option ℕ × List ℕ) Fault
-migrate_at text = migrate_by (word_at (codes "migrate ") text) text
+abbrev pub with_lane : ℕ → LaneSet → State → State
+with_lane k set s = record { due = due_next s.head.lanes (Lane k); head = record s.head { sets = slice_set s.head.sets k set }; acts = s.acts }
 
-unfoldable pub limits_at : List ℕ → Result (Limits × List ℕ) Fault
-limits_at text = do
-  pages ← keyed_at (codes "pages ") 1 2064 text
-  patience ← keyed_at (codes "patience ") 1 65535 pages.1
-  migrate ← migrate_at patience.1
-  Ok (record { pages = pages.0; patience = patience.0; migrate = migrate.0 }, migrate.1)
+abbrev pub with_act : ℕ × Act → State → Option State
+with_act a s = if nat_lt (length s.acts) 65536 then Some (record { due = Body; head = s.head; acts = s.acts ++ a ∷ [] }) else None
 
--- the lanes' sets, with zeros up to eight
-unfoldable pub sets_at : ℕ → List ℕ → Result (List LaneSet × List ℕ) Fault
-sets_at lanes text = do
-  sets ← lanes_at lanes 1 text
-  Ok (sets.0 ++ replicate (8 - lanes) no_set, sets.1)
+-- an act, or the end
+abbrev pub body_step : State → List ℕ → Option State
+body_step s line = if bytes_eq line (codes "end") then Some (record s { due = Done }) else line_in s.head (words_of line) >>= λ a. with_act a s
 
-abbrev pub head_of : Sizes → List LaneSet → Pace → Bounds → Limits → Head
-head_of sizes sets pace bounds limits = record { blocks = sizes.blocks; shelf = sizes.shelf; lanes = sizes.lanes; sets = sets; burst = pace.burst; mix = pace.mix; change = pace.change; slice = bounds.slice; small = bounds.small; pages = limits.pages; patience = limits.patience; migrate = limits.migrate }
+abbrev pub with_turn : Option (List ℕ) → State → List ℕ → Option State
+with_turn None s line = body_step s line
+with_turn (Some w) s line = ranged_in 1 65535 w >>= λ turn. Some (record { due = Body; head = record s.head { migrate = Some turn }; acts = s.acts })
 
-unfoldable pub head_at : List ℕ → Result (Head × List ℕ) Fault
-head_at text = do
-  sizes ← sizes_at text
-  sets ← sets_at sizes.0.lanes sizes.1
-  pace ← pace_at sets.1
-  bounds ← bounds_at sizes.0.blocks pace.1
-  limits ← limits_at bounds.1
-  Ok (head_of sizes.0 sets.0 pace.0 bounds.0 limits.0, limits.1)
+abbrev pub step_at : Due → State → List ℕ → Option State
+step_at Title s line = if bytes_eq line title then Some (record s { due = Number Blocks }) else None
+step_at (Number key) s line = number_in key s.head line >>= λ n. Some (record { due = after key; head = with_number key n s.head; acts = s.acts })
+step_at (Lane k) s line = if nat_lt k 8 then (lane_words (k + 1) (words_of line) >>= set_of >>= λ set. Some (with_lane k set s)) else None
+step_at Behind s line = with_turn (keyed (codes "migrate") (words_of line)) s line
+step_at Body s line = body_step s line
+step_at Done s line = None
+
+-- what was read after one more line, if that is right
+unfoldable pub step : State → List ℕ → Option State
+step s line = step_at s.due s line
+
+-- and after many
+unfoldable pub run : State → List (List ℕ) → Option State
+run s [] = Some s
+run s (line ∷ lines) = step s line >>= λ t. run t lines

@@ -3,43 +3,30 @@
 //! with its cause. `parse_front` does so with the front of a text, whatever stands behind it.
 #![tactic(auto)]
 
-ghost use Rattle.std.specs.Prelude.{◌≡◌, ◌≤◌, ◌-◌, ◌^◌, ◌⊎◌, ℕ, List, ◌++◌, length, take, IfOk, IfErr, Ok, Err};
+ghost use Rattle.std.specs.Prelude.{◌≡◌, ◌≤◌, ◌⊎◌, ℕ, List, ◌++◌, length, take, IfOk, IfErr, Ok, Err};
 ghost use Rattle.nvm_model.specs.ScriptText.{IsScript, script_text};
 ghost use Rattle.nvm_model.specs.declared.script.Script.{Script};
-ghost use Rattle.script.specs.Acts.{bad_line_of};
 ghost use Rattle.script.specs.BadLine.{IsBadLine, IsRefusedAt, IsFrontRefused};
 ghost use Rattle.script.specs.declared.refusal.BadLine.{BadLine};
 
 mod act;
-mod acts;
+mod form;
 mod head;
-mod number;
+mod key;
+mod line;
+mod reader;
 mod refusal;
+mod value;
 mod write;
 
-use acts::{read_front, read_script};
 pub use nvm_model::{Act, Acts, Head, LaneSet, Script};
+use reader::read_front;
 pub use refusal::{BadLine, ParseRefusal, Why};
-use refusal::{Fault, Refusal};
 use std::alloc::Global;
 pub use write::write_script;
 
-/// The line at which so many bytes are left, counted from 1.
-fn bad_line(text: &[u8], fault: Fault) -> BadLine
-    requires { length text.now ≤ 2 ^ 32 - 2 }
-    ensures { result ≡ bad_line_of text.now fault }
-{
-    let front = &text[..text.len().saturating_sub(fault.left)];
-    let before = front.iter().filter(|byte| **byte == b'\n').count();
-    BadLine {
-        line: before as u32 + 1,
-        why: fault.why,
-    }
-}
-
 /// Reads a script.
 pub fn parse(alloc: Global, text: &[u8]) -> Result<Script, ParseRefusal>
-    requires { length text.now ≤ 2 ^ 32 - 2 }
     // What is read is spelled so, each byte of it, and in range.
     ensures found { IfOk result (λ s. IsScript s × (text.now ≡ script_text s)) }
     // What is spelled so is read, unless memory runs out.
@@ -49,19 +36,20 @@ pub fn parse(alloc: Global, text: &[u8]) -> Result<Script, ParseRefusal>
     // There is at most one such line, and it is told, unless memory runs out.
     ensures told { (bad : BadLine) → IsBadLine text.now bad → (result ≡ Err (ParseRefusal.Bad bad)) ⊎ (result ≡ Err ParseRefusal.OutOfMemory) }
 {
-    match read_script(alloc, text) {
-        Ok((head, acts)) => Ok(Script {
-            head,
-            acts: Acts::new(acts),
-        }),
-        Err(Refusal::Memory) => Err(ParseRefusal::OutOfMemory),
-        Err(Refusal::Fault(fault)) => Err(ParseRefusal::Bad(bad_line(text, fault))),
+    match read_front(alloc, text) {
+        Ok((reader, rest, line)) => {
+            if !rest.is_empty() {
+                let why = Why::More;
+                return Err(ParseRefusal::Bad(BadLine { line, why }));
+            }
+            Ok(reader.script())
+        }
+        Err(refusal) => Err(refusal),
     }
 }
 
 /// Reads a script at the front of a text, and answers where the bytes behind its line `end` begin.
 pub fn parse_front(alloc: Global, text: &[u8]) -> Result<(Script, usize), ParseRefusal>
-    requires { length text.now ≤ 2 ^ 32 - 2 }
     // What is read is spelled by the front of the text, each byte of it, and in range.
     ensures found { IfOk result (λ x. IsScript x.0 × (x.1 ≤ length text.now) × (take x.1 text.now ≡ script_text x.0)) }
     // A script that the front of the text spells is read, unless memory runs out.
@@ -70,13 +58,11 @@ pub fn parse_front(alloc: Global, text: &[u8]) -> Result<(Script, usize), ParseR
     ensures bad { IfErr result (λ refusal. IsFrontRefused text.now refusal) }
 {
     match read_front(alloc, text) {
-        Ok((head, acts, rest)) => {
-            let acts = Acts::new(acts);
+        Ok((reader, rest, _)) => {
             let end = text.len().saturating_sub(rest.len());
-            Ok((Script { head, acts }, end))
+            Ok((reader.script(), end))
         }
-        Err(Refusal::Memory) => Err(ParseRefusal::OutOfMemory),
-        Err(Refusal::Fault(fault)) => Err(ParseRefusal::Bad(bad_line(text, fault))),
+        Err(refusal) => Err(refusal),
     }
 }
 

@@ -1,9 +1,8 @@
 //! Why a text isn't a script.
 
-ghost use Rattle.std.specs.Prelude.{◌≡◌, ◌≤◌, length};
-ghost use Rattle.script.specs.Reading.{told};
+ghost use Rattle.std.specs.Prelude.{◌≡◌};
 
-use std::alloc::{AllocError, AllocFailed};
+use std::alloc::AllocError;
 
 /// What is wrong with a line.
 #[derive(Clone, Copy, Debug, PartialEq, Eq)]
@@ -32,61 +31,12 @@ pub enum ParseRefusal {
     OutOfMemory,
 }
 
-/// A line that isn't right: how many bytes are left where it begins, and what is wrong.
-#[derive(Clone, Copy)]
-pub struct Fault {
-    pub left: usize,
-    pub why: Why,
-}
+impl From<AllocError> for ParseRefusal {
+    ghost use Rattle.script.specs.declared.refusal.ParseRefusal.TheVariants.{OutOfMemory};
 
-/// What ends the reading of a script.
-#[derive(Clone, Copy)]
-pub enum Refusal {
-    Memory,
-    Fault(Fault),
-}
+    ghost from_gives = { λ _ e. e ≡ OutOfMemory };
 
-impl From<AllocError> for Refusal {
-    ghost use Rattle.script.specs.declared.refusal.Refusal.TheVariants.{Memory};
-
-    ghost from_gives = { λ _ e. e ≡ Memory };
-
-    fn from(_e: AllocError) -> Refusal {
-        Refusal::Memory
-    }
-}
-
-impl<T: Drop> From<AllocFailed<T>> for Refusal {
-    ghost use Rattle.script.specs.declared.refusal.Refusal.TheVariants.{Memory};
-
-    ghost from_gives = { λ _ e. e ≡ Memory };
-
-    fn from(_e: AllocFailed<T>) -> Refusal {
-        Refusal::Memory
-    }
-}
-
-impl From<Fault> for Refusal {
-    ghost use Rattle.script.specs.declared.refusal.Refusal.TheVariants as refusals;
-
-    ghost from_gives = { λ fault e. e ≡ refusals.Fault fault };
-
-    fn from(fault: Fault) -> Refusal {
-        Refusal::Fault(fault)
-    }
-}
-
-/// The line that begins the text, and what is wrong with it: a line without a line feed is cut, whatever its form.
-pub fn fault_at(text: &[u8], why: Why) -> Fault
-    ensures value { result ≡ told text.now why }
-    ensures within { result.left ≤ length text.now }
-{
-    let why = match why {
-        Why::Form if !text.contains(&b'\n') => Why::Cut,
-        why => why,
-    };
-    Fault {
-        left: text.len(),
-        why,
+    fn from(_e: AllocError) -> ParseRefusal {
+        ParseRefusal::OutOfMemory
     }
 }

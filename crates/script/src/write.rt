@@ -1,14 +1,15 @@
 //! A script's text, written line by line.
 
 ghost use Rattle.std.specs.Prelude.{◌≡◌, ℕ, ◌+◌, ◌<◌, ◌≤◌, ◌^◌, ◌∷◌, ◌++◌, [], All, OnErr, OnOk, codes, decimal, length, take};
-ghost use Rattle.std.specs.List.{AllByRecursion, flat_map};
+ghost use Rattle.std.specs.List.{flat_map};
 ghost use Rattle.hex.specs.Hex.{encode_lower};
 ghost use Rattle.mig_base.specs.Count.{HasCause};
 ghost use Rattle.mig_base.specs.Stream.{IsCut, Writes, with_more};
 ghost use Rattle.nvm_model.specs.ScriptText.{IsAct, IsHead, IsScript, act_line, act_text, head_text, lane_line, lane_lines, migrate_line, op_word, page_word, script_text};
 ghost use Rattle.nvm_model.specs.Text.{field, last_field};
-ghost use Rattle.script.specs.Writing.{limits_text, sizes_text};
+ghost use Rattle.script.specs.Writing.{key_text};
 
+use crate::key::{Key, first_keys, later_keys};
 use line_buf::{LineBuf, write_line};
 use mig_base::{Failed, Sink};
 use nvm_model::{Act, Head, LaneSet, Script};
@@ -38,24 +39,23 @@ fn write_parts<K: Sink>(s: &Script, sink: &mut K) -> Result<(), Failed>
     write_line(b"end\n", sink)
 }
 
-/// Writes lines of a word and a number each.
-fn write_numbers<K: Sink>(numbers: &[(&str, u32)], sink: &mut K) -> Result<(), Failed>
-    requires { AllByRecursion (λ number. length number.0.now ≤ 16) numbers.now }
-    ensures { Writes (flat_map (λ number. number.0.now ++ last_field number.1) numbers.now) (K.bytes sink.old) (K.bytes sink.new) (K.faults sink.old) (K.faults sink.new) result }
+/// Writes the lines of these numbers.
+fn write_keys<K: Sink>(keys: &[Key], head: &Head, sink: &mut K) -> Result<(), Failed>
+    ensures { Writes (flat_map (key_text head.now) keys.now) (K.bytes sink.old) (K.bytes sink.new) (K.faults sink.old) (K.faults sink.new) result }
 {
-    for (word, n) in numbers {
-        write_number(word, *n, sink)?;
+    for key in keys {
+        write_key(*key, head, sink)?;
     }
     Ok(())
 }
 
-fn write_number<K: Sink>(word: &str, n: u32, sink: &mut K) -> Result<(), Failed>
-    requires { length word.now ≤ 16 }
-    ensures { Writes (word.now ++ last_field n) (K.bytes sink.old) (K.bytes sink.new) (K.faults sink.old) (K.faults sink.new) result }
+fn write_key<K: Sink>(key: Key, head: &Head, sink: &mut K) -> Result<(), Failed>
+    ensures { Writes (key_text head.now key) (K.bytes sink.old) (K.bytes sink.new) (K.faults sink.old) (K.faults sink.new) result }
 {
     let mut line = LineBuf::new();
-    line.push(word.as_bytes());
-    line.push_last_field(n);
+    line.push(key.word());
+    line.push(b" ");
+    line.push_last_field(key.number(head));
     write_line(line.bytes(), sink)
 }
 
@@ -64,36 +64,10 @@ fn write_head<K: Sink>(head: &Head, sink: &mut K) -> Result<(), Failed>
     ensures { Writes (head_text head.now) (K.bytes sink.old) (K.bytes sink.new) (K.faults sink.old) (K.faults sink.new) result }
 {
     write_line(b"nvmigrate script 1\n", sink)?;
-    write_sizes(head, sink)?;
+    write_keys(&first_keys(), head, sink)?;
     write_lanes(head, sink)?;
-    write_limits(head, sink)?;
+    write_keys(&later_keys(), head, sink)?;
     write_migrate(head.migrate, sink)
-}
-
-fn write_sizes<K: Sink>(head: &Head, sink: &mut K) -> Result<(), Failed>
-    ensures { Writes (sizes_text head.now) (K.bytes sink.old) (K.bytes sink.new) (K.faults sink.old) (K.faults sink.new) result }
-{
-    let numbers = [
-        ("blocks ", head.blocks),
-        ("shelf ", head.shelf),
-        ("lanes ", u32::from(head.lanes)),
-    ];
-    write_numbers(&numbers, sink)
-}
-
-fn write_limits<K: Sink>(head: &Head, sink: &mut K) -> Result<(), Failed>
-    ensures { Writes (limits_text head.now) (K.bytes sink.old) (K.bytes sink.new) (K.faults sink.old) (K.faults sink.new) result }
-{
-    let numbers = [
-        ("burst ", head.burst),
-        ("mix ", head.mix),
-        ("change ", head.change),
-        ("slice ", head.slice),
-        ("small ", head.small),
-        ("pages ", head.pages),
-        ("patience ", head.patience),
-    ];
-    write_numbers(&numbers, sink)
 }
 
 fn write_lanes<K: Sink>(head: &Head, sink: &mut K) -> Result<(), Failed>
@@ -134,7 +108,12 @@ fn write_migrate<K: Sink>(turn: Option<u32>, sink: &mut K) -> Result<(), Failed>
 {
     match turn {
         None => Ok(()),
-        Some(turn) => write_number("migrate ", turn, sink),
+        Some(turn) => {
+            let mut line = LineBuf::new();
+            line.push(b"migrate ");
+            line.push_last_field(turn);
+            write_line(line.bytes(), sink)
+        }
     }
 }
 

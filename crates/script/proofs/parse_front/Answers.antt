@@ -1,15 +1,28 @@
-use Rattle.std.proofs.Common.{ap, inl, Ok}
-use Rattle.script.proofs.Fronts.{front_found, front_only, front_not_bad, front_told}
+use Rattle.std.proofs.Common.{◌≡◌, ℕ, ◌-◌, ◌≤◌, List, length, take, ap, inl, inr, sym, subst, ◌∙◌, Ok, Err}
+use Rattle.nvm_model.specs.declared.script.Script.{Script}
+use Rattle.nvm_model.specs.ScriptText.{IsScript, script_text}
+use Rattle.script.specs.Lines.{script_of}
+use Rattle.script.proofs.ReadLaws.{front_found, front_place, refused_front, refused_only}
+use Rattle.script.proofs.BadLines.{one_front}
 use Rattle.script.proofs.parse_front.Goals as goal
 
 pub returns-in-Ok-clause-found : goal.returns-in-Ok-clause-found
-returns-in-Ok-clause-found c = front_found c.args.text.now c.in-Ok.head c.in-Ok.acts.items c.new-acts.result c.in-Ok.rest.now c.saturating_sub-end.result c.new-acts.ensures c.saturating_sub-end.ensures c.in-Ok.ensures
+returns-in-Ok-clause-found c =
+    let f = front_found c.args.text.now c.in-Ok.rest.now c.in-Ok.reader c.in-Ok.field-0-2 c.in-Ok.ensures.1 c.in-Ok.ensures.0 in
+    let end : ℕ = c.saturating_sub-end.result in
+    let p = front_place c.args.text.now c.in-Ok.rest.now (script_of c.in-Ok.reader) end f.1 c.saturating_sub-end.ensures in
+    subst (λ (s : Script). IsScript s × (end ≤ length c.args.text.now) × (take end c.args.text.now ≡ script_text s)) (sym c.script.ensures) (f.0, p.1, p.2)
 
 pub returns-in-Ok-clause-only : goal.returns-in-Ok-clause-only
-returns-in-Ok-clause-only c = λ s rest f e. inl (ap Ok (front_only c.args.text.now c.in-Ok.head c.in-Ok.acts.items c.new-acts.result c.in-Ok.rest.now c.saturating_sub-end.result s rest c.new-acts.ensures c.saturating_sub-end.ensures c.in-Ok.ensures f e))
+returns-in-Ok-clause-only c =
+    let end : ℕ = c.saturating_sub-end.result in
+    λ s rest f e.
+    let same = one_front c.args.text.now c.in-Ok.rest.now rest c.in-Ok.reader c.in-Ok.field-0-2 s c.in-Ok.ensures.1 c.in-Ok.ensures.0 f e in
+    let p = front_place c.args.text.now rest s end e (c.saturating_sub-end.ensures ∙ ap (λ (t : List ℕ). length c.args.text.now - length t) same.1) in
+    inl (ap Ok (ap (λ (x : Script). (x, end)) (c.script.ensures ∙ same.0) ∙ ap (λ (n : ℕ). (s, n)) p.0))
 
-pub returns-in-Err-Fault-clause-only : goal.returns-in-Err-Fault-clause-only
-returns-in-Err-Fault-clause-only c = λ s rest f e. absurd (front_not_bad c.args.text.now c.in-Err-Fault.fault s rest (rw c.in-Err-Fault.field-0-is at c.in-Err-Fault.ensures) f e)
+pub returns-in-Err-clause-only : goal.returns-in-Err-clause-only
+returns-in-Err-clause-only c = λ s rest f e. inr (ap Err (refused_only c.args.text.now rest c.in-Err.refusal s c.in-Err.ensures f e))
 
-pub returns-in-Err-Fault-clause-bad : goal.returns-in-Err-Fault-clause-bad
-returns-in-Err-Fault-clause-bad c = front_told c.args.text.now c.in-Err-Fault.fault c.bad_line.result (rw c.in-Err-Fault.field-0-is at c.in-Err-Fault.ensures) c.bad_line.ensures
+pub returns-in-Err-clause-bad : goal.returns-in-Err-clause-bad
+returns-in-Err-clause-bad c = refused_front c.args.text.now c.in-Err.refusal c.in-Err.ensures
