@@ -13,7 +13,8 @@ use Rattle.script.specs.declared.refusal.BadLine.{BadLine}
 use Rattle.script.specs.declared.refusal.Why.{Why}
 use Rattle.script.specs.declared.refusal.Why.TheVariants.{Form, Range, Cut, More}
 use Rattle.script.specs.Words.{◌>>=◌, cut_at}
-use Rattle.script.specs.Lines.{title, is_due, due_next, due_at, State, no_head, start, script_of, number_in, step_at, step, run}
+use Rattle.script.specs.Keys.{no_head}
+use Rattle.script.specs.Lines.{title, is_due, due_next, due_at, State, start, script_of, number_in, step_at, step, run}
 use Rattle.script.specs.BadLine.{lined, HasNoFeed, HasForm, BeginsOf, Begins, IsWholeText, IsWhy, IsBadLine}
 use Rattle.script.specs.Reads.{IsStuck, IsRead, IsTold}
 use Rattle.script.proofs.WordLaws.{bind_step, some_is, cut_takes, cut_again}

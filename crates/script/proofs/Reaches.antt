@@ -17,9 +17,9 @@ use Rattle.script.specs.declared.key.Key.TheVariants.{Blocks, Shelf, Lanes, Burs
 use Rattle.script.specs.declared.key.Due.{Due}
 use Rattle.script.specs.declared.key.Due.TheVariants.{Title, Number, Lane, Behind, Body, Done}
 use Rattle.script.specs.Words.{◌>>=◌, cut_at, words_of, digits_on, number_in as word_number, ranged_in}
-use Rattle.script.specs.Keys.{key_word, number, with_number, later_keys, after, earlier}
+use Rattle.script.specs.Keys.{key_word, number, with_number, later_keys, after, earlier, no_set, no_head, later_back}
 use Rattle.script.specs.ActWords.{line_in}
-use Rattle.script.specs.Lines.{title, keyed, lane_words, set_of, State, start, no_set, no_head, due_next, number_in, with_lane, with_act, body_step, with_turn, step_at, step, run}
+use Rattle.script.specs.Lines.{title, keyed, lane_words, set_of, State, start, due_next, number_in, with_lane, with_act, body_step, with_turn, step_at, step, run}
 use Rattle.script.proofs.WordLaws.{bind_step, words_joined, joined_free}
 use Rattle.script.proofs.ValueLaws.{number_again, ranged_again, decimal_plain, is_text}
 use Rattle.script.proofs.ActLaws as acts
@@ -288,5 +288,5 @@ script_free s f =
     let h : Head = s.head in
     let first = keys_free (Lanes ∷ Shelf ∷ Blocks ∷ []) h (title ∷ []) f.head (title_free, tt) in
     let lanes = lines_append (first_list h) (sets_list 1 (take h.lanes h.sets)) first (sets_free 1 (take h.lanes h.sets) f.head.sets.1) in
-    let head = keys_free (Patience ∷ earlier Patience) h (lanes_list h.lanes h) f.head lanes in
+    let head = keys_free later_back h (lanes_list h.lanes h) f.head lanes in
     lines_append (body_list h s.acts) (end_line ∷ []) (lines_append (head_list h ++ turn_list h.migrate) (map act_text s.acts) (lines_append (head_list h) (turn_list h.migrate) head (turn_free h.migrate f.head.migrate)) (acts_free h s.acts f.head f.acts)) (end_free, tt)

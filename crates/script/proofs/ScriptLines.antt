@@ -13,7 +13,7 @@ use Rattle.script.specs.declared.key.Key.{Key}
 use Rattle.script.specs.declared.key.Key.TheVariants.{Blocks, Shelf, Lanes, Patience}
 use Rattle.script.specs.declared.key.Due.{Due}
 use Rattle.script.specs.declared.key.Due.TheVariants.{Title, Number, Lane, Behind, Body, Done}
-use Rattle.script.specs.Keys.{key_word, number, with_number, after, earlier}
+use Rattle.script.specs.Keys.{key_word, number, with_number, after, earlier, later_back}
 use Rattle.script.specs.Lines.{title}
 use Rattle.script.specs.BadLine.{lined}
 use Rattle.script.proofs.WordLaws.{spaced}
@@ -44,7 +44,7 @@ base_list Lanes h = title ∷ []
 base_list key h = lanes_list h.lanes h
 
 abbrev pub head_list : Head → List (List ℕ)
-head_list h = keys_list (Patience ∷ earlier Patience) h (lanes_list h.lanes h)
+head_list h = keys_list later_back h (lanes_list h.lanes h)
 
 abbrev pub turn_text : ℕ → List ℕ
 turn_text turn = keyed_line (codes "migrate") turn
@@ -121,7 +121,7 @@ first_is h = keys_are (Lanes ∷ Shelf ∷ Blocks ∷ []) h (title ∷ [])
 
 pub head_is : (h : Head) → length (take h.lanes h.sets) ≤ 8 → lined (head_list h) ++ migrate_line h.migrate ≡ head_text h
 head_is h few =
-    let keys : List Key = Patience ∷ earlier Patience in
+    let keys : List Key = later_back in
     let sets : List (List ℕ) = sets_list 1 (take h.lanes h.sets) in
     let base : lined (lanes_list h.lanes h) ≡ keys_text (Lanes ∷ Shelf ∷ Blocks ∷ []) h (codes "nvmigrate script 1\n") ++ lane_lines 1 (take h.lanes h.sets) =
     lined_append (first_list h) sets ∙ ap (λ (t : List ℕ). t ++ lined sets) (first_is h) ∙ ap (λ (t : List ℕ). keys_text (Lanes ∷ Shelf ∷ Blocks ∷ []) h (codes "nvmigrate script 1\n") ++ t) (lanes_are 1 (take h.lanes h.sets) (omega arith)) in

@@ -15,9 +15,9 @@ use Rattle.script.specs.declared.key.Key.TheVariants.{Blocks, Shelf, Lanes, Burs
 use Rattle.script.specs.declared.key.Due.{Due}
 use Rattle.script.specs.declared.key.Due.TheVariants.{Title, Number, Lane, Behind, Body, Done}
 use Rattle.script.specs.Words.{◌>>=◌, words_of, ranged_in, is_numeral}
-use Rattle.script.specs.Keys.{key_word, with_number, after, earlier}
+use Rattle.script.specs.Keys.{key_word, with_number, after, earlier, no_set, later_back}
 use Rattle.script.specs.ActWords.{line_in, is_act_form}
-use Rattle.script.specs.Lines.{title, keyed, lane_words, set_of, is_number, are_numbers, is_body, is_due, State, no_set, due_next, number_in, with_lane, with_act, body_step, with_turn, step_at}
+use Rattle.script.specs.Lines.{title, keyed, lane_words, set_of, is_number, are_numbers, is_body, is_due, State, due_next, number_in, with_lane, with_act, body_step, with_turn, step_at}
 use Rattle.script.proofs.WordLaws.{bind_some, some_is, chosen}
 use Rattle.script.proofs.ValueLaws.{ranged_takes, is_text, numeral_again}
 use Rattle.script.proofs.ActLaws as acts
@@ -48,7 +48,7 @@ abbrev pub FitsAt : Due → Head → List (ℕ × Act) → Type 0
 FitsAt Title h done = SetsTo 0 h × IsBlank h done
 FitsAt (Number key) h done = FitsBefore key h × BaseFits key h × IsBlank h done
 FitsAt (Lane k) h done = FirstFits h × (k < h.lanes) × SetsTo k h × IsBlank h done
-FitsAt Behind h done = AllByRecursion (λ key. Fits key h) (Patience ∷ earlier Patience) × BaseFits Burst h × IsBlank h done
+FitsAt Behind h done = AllByRecursion (λ key. Fits key h) later_back × BaseFits Burst h × IsBlank h done
 FitsAt Body h done = IsHead h × AllByRecursion (IsActLine h) done × (length done ≤ 65536)
 FitsAt Done h done = IsHead h × AllByRecursion (IsActLine h) done × (length done ≤ 65536)
 
@@ -167,7 +167,7 @@ lane_next k h done line u f e =
 
 -- ---- the body
 
-pub whole_head : (h : Head) → AllByRecursion (λ key. Fits key h) (Patience ∷ earlier Patience) → BaseFits Burst h → IsTurn h.migrate → IsHead h
+pub whole_head : (h : Head) → AllByRecursion (λ key. Fits key h) later_back → BaseFits Burst h → IsTurn h.migrate → IsHead h
 whole_head h f b t = let shelves = shelves_from h.blocks h.shelf b.0.1.0.2 in assumption
 
 acts_push : (h : Head) (done : List (ℕ × Act)) (a : ℕ × Act) → AllByRecursion (IsActLine h) done → IsActLine h a → AllByRecursion (IsActLine h) (done ++ a ∷ [])

@@ -1,5 +1,6 @@
-use Rattle.std.specs.Prelude.{ℕ, ◌/◌, ◌%◌, ◌&&◌, Bool, true, List, [], ◌∷◌, codes, nat_le, ◌==◌}
+use Rattle.std.specs.Prelude.{ℕ, ◌/◌, ◌%◌, ◌&&◌, Bool, true, List, [], ◌∷◌, codes, nat_le, ◌==◌, replicate, None}
 use Rattle.nvm_model.specs.declared.script.Head.{Head}
+use Rattle.nvm_model.specs.declared.script.LaneSet.{LaneSet}
 use Rattle.script.specs.declared.key.Key.{Key}
 use Rattle.script.specs.declared.key.Key.TheVariants.{Blocks, Shelf, Lanes, Burst, Mix, Change, Slice, Small, Pages, Patience}
 use Rattle.script.specs.declared.key.Due.{Due}
@@ -72,6 +73,13 @@ abbrev pub are_shelves : Key → ℕ → Head → Bool
 are_shelves Shelf n h = h.blocks % n == 0 && nat_le (h.blocks / n) 64
 are_shelves key n h = true
 
+-- a head of which nothing was read
+abbrev pub no_set : LaneSet
+no_set = record { sq = 0; cq = 0; pages = 0 }
+
+abbrev pub no_head : Head
+no_head = record { blocks = 0; shelf = 0; lanes = 0; sets = replicate 8 no_set; burst = 0; mix = 0; change = 0; slice = 0; small = 0; pages = 0; patience = 0; migrate = None }
+
 -- the keys whose lines come behind those of the lanes
 abbrev pub later_keys : List Key
 later_keys = Burst ∷ Mix ∷ Change ∷ Slice ∷ Small ∷ Pages ∷ Patience ∷ []
@@ -104,3 +112,7 @@ earlier Slice = Change ∷ Mix ∷ Burst ∷ []
 earlier Small = Slice ∷ Change ∷ Mix ∷ Burst ∷ []
 earlier Pages = Small ∷ Slice ∷ Change ∷ Mix ∷ Burst ∷ []
 earlier Patience = Pages ∷ Small ∷ Slice ∷ Change ∷ Mix ∷ Burst ∷ []
+
+-- the later keys, the last of them first
+abbrev pub later_back : List Key
+later_back = Patience ∷ earlier Patience

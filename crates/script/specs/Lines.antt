@@ -9,7 +9,7 @@ use Rattle.script.specs.declared.key.Key.TheVariants.{Blocks, Burst}
 use Rattle.script.specs.declared.key.Due.{Due}
 use Rattle.script.specs.declared.key.Due.TheVariants.{Title, Number, Lane, Behind, Body, Done}
 use Rattle.script.specs.Words.{◌>>=◌, words_of, next, last, ranged_in, is_numeral}
-use Rattle.script.specs.Keys.{key_word, with_number, lowest, highest, are_shelves, after}
+use Rattle.script.specs.Keys.{key_word, with_number, lowest, highest, are_shelves, after, no_head}
 use Rattle.script.specs.ActWords.{line_in, is_act_form}
 
 -- Line by line: which line is due, its form, and what it adds to what was read.
@@ -98,12 +98,6 @@ pub record State : Type 0 where
 
 abbrev pub script_of : State → Script
 script_of s = record { head = s.head; acts = s.acts }
-
-abbrev pub no_set : LaneSet
-no_set = record { sq = 0; cq = 0; pages = 0 }
-
-abbrev pub no_head : Head
-no_head = record { blocks = 0; shelf = 0; lanes = 0; sets = replicate 8 no_set; burst = 0; mix = 0; change = 0; slice = 0; small = 0; pages = 0; patience = 0; migrate = None }
 
 abbrev pub start : State
 start = record { due = Title; head = no_head; acts = [] }

@@ -1,9 +1,9 @@
 //! The numbers of a head, and which line of a script is due.
 
 ghost use Rattle.std.specs.Prelude.{◌≡◌, ◌≤◌, length};
-ghost use Rattle.script.specs.Keys.{key_word, number, with_number, lowest, highest, are_shelves, first_keys, later_keys, after};
+ghost use Rattle.script.specs.Keys.{key_word, number, with_number, lowest, highest, are_shelves, after, no_head};
 
-use nvm_model::Head;
+use nvm_model::{Head, LaneSet};
 
 /// A number of a script's head, which has a line of its own.
 #[derive(Clone, Copy)]
@@ -141,23 +141,40 @@ impl Key {
 }
 
 /// The keys whose lines come before those of the lanes.
-pub fn first_keys() -> [Key; 3]
-    ensures { result ≡ first_keys }
-{
-    [Key::Blocks, Key::Shelf, Key::Lanes]
-}
+pub const FIRST_KEYS: [Key; 3] = [Key::Blocks, Key::Shelf, Key::Lanes];
 
 /// The keys whose lines come behind those of the lanes.
-pub fn later_keys() -> [Key; 7]
-    ensures { result ≡ later_keys }
+pub const LATER_KEYS: [Key; 7] = [
+    Key::Burst,
+    Key::Mix,
+    Key::Change,
+    Key::Slice,
+    Key::Small,
+    Key::Pages,
+    Key::Patience,
+];
+
+/// A head of which nothing was read.
+pub fn no_head() -> Head
+    ensures { result ≡ no_head }
 {
-    [
-        Key::Burst,
-        Key::Mix,
-        Key::Change,
-        Key::Slice,
-        Key::Small,
-        Key::Pages,
-        Key::Patience,
-    ]
+    let none = LaneSet {
+        sq: 0,
+        cq: 0,
+        pages: 0,
+    };
+    Head {
+        blocks: 0,
+        shelf: 0,
+        lanes: 0,
+        sets: [none; 8],
+        burst: 0,
+        mix: 0,
+        change: 0,
+        slice: 0,
+        small: 0,
+        pages: 0,
+        patience: 0,
+        migrate: None,
+    }
 }

@@ -7,11 +7,11 @@ ghost use Rattle.script.specs.Reads.{Stepped, Steps, why_of, IsRead, IsRefused};
 
 use crate::act::lane_act;
 use crate::head::{is_due, keyed, lane_set, number_in};
-use crate::key::{Due, Key};
+use crate::key::{Due, Key, no_head};
 use crate::line::{Words, cut};
 use crate::refusal::{BadLine, ParseRefusal, Why};
 use crate::value::ranged;
-use nvm_model::{Act, Acts, Head, LaneSet, Script};
+use nvm_model::{Act, Acts, Head, Script};
 use std::alloc::{AllocError, Global};
 use std::marker::Model;
 
@@ -39,28 +39,9 @@ impl Reader {
     fn new(alloc: Global) -> Reader
         ensures { result ≡ start }
     {
-        let none = LaneSet {
-            sq: 0,
-            cq: 0,
-            pages: 0,
-        };
-        let head = Head {
-            blocks: 0,
-            shelf: 0,
-            lanes: 0,
-            sets: [none; 8],
-            burst: 0,
-            mix: 0,
-            change: 0,
-            slice: 0,
-            small: 0,
-            pages: 0,
-            patience: 0,
-            migrate: None,
-        };
         Reader {
             due: Due::Title,
-            head,
+            head: no_head(),
             acts: Vec::new(alloc),
         }
     }

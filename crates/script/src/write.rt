@@ -9,7 +9,7 @@ ghost use Rattle.nvm_model.specs.ScriptText.{IsAct, IsHead, IsScript, act_line, 
 ghost use Rattle.nvm_model.specs.Text.{field, last_field};
 ghost use Rattle.script.specs.Writing.{key_text};
 
-use crate::key::{Key, first_keys, later_keys};
+use crate::key::{FIRST_KEYS, Key, LATER_KEYS};
 use line_buf::{LineBuf, write_line};
 use mig_base::{Failed, Sink};
 use nvm_model::{Act, Head, LaneSet, Script};
@@ -64,9 +64,9 @@ fn write_head<K: Sink>(head: &Head, sink: &mut K) -> Result<(), Failed>
     ensures { Writes (head_text head.now) (K.bytes sink.old) (K.bytes sink.new) (K.faults sink.old) (K.faults sink.new) result }
 {
     write_line(b"nvmigrate script 1\n", sink)?;
-    write_keys(&first_keys(), head, sink)?;
+    write_keys(&FIRST_KEYS, head, sink)?;
     write_lanes(head, sink)?;
-    write_keys(&later_keys(), head, sink)?;
+    write_keys(&LATER_KEYS, head, sink)?;
     write_migrate(head.migrate, sink)
 }
 
