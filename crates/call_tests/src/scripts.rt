@@ -1,14 +1,10 @@
 //! Scripts as values: how they are read, alone and in front of other bytes, and how they are written.
 
-ghost use Rattle.std.specs.Prelude.{IfOk};
-ghost use Rattle.nvm_model.specs.ScriptText.{IsScript};
-
 use mig_base::{BytesSink, Failed};
 use nvm_values::Op;
 use script::{Act, BadLine, Head, LaneSet, ParseRefusal, Script, Why};
 use script::{parse, parse_front, write_script};
 use std::alloc::{AllocError, Global};
-use std::process::Abort;
 use std::test::Fail;
 
 /// A script, line by line.
@@ -45,18 +41,10 @@ fn spoilt(alloc: Global, line: usize, text: &str) -> Result<Vec<u8>, AllocError>
     Ok(whole)
 }
 
-/// What a text is read as, where it isn't too long.
-fn read(rt: &impl Abort, alloc: Global, text: &[u8]) -> Result<Script, ParseRefusal>
-    ensures { IfOk result (λ s. IsScript s) }
-{
-    assert!(rt; text.len() < 1 << 24);
-    parse(alloc, text)
-}
-
 /// The act that stands at line 15.
-fn act_at(rt: &impl Abort, alloc: Global, line: &str) -> Result<Option<(u8, Act)>, AllocError> {
+fn act_at(alloc: Global, line: &str) -> Result<Option<(u8, Act)>, AllocError> {
     let text = spoilt(alloc, 15, line)?;
-    match read(rt, alloc, &text) {
+    match parse(alloc, &text) {
         Ok(script) => Ok(script.acts.list().first().copied()),
         Err(_) => Ok(None),
     }
@@ -65,7 +53,7 @@ fn act_at(rt: &impl Abort, alloc: Global, line: &str) -> Result<Option<(u8, Act)
 #[test]
 fn a_script_is_read(rt: HostRuntime) -> Result<(), Fail> {
     let text = spoilt(rt.alloc(), 0, "")?;
-    let script = read(&rt, rt.alloc(), &text).ok().ok_or("it is a script")?;
+    let script = parse(rt.alloc(), &text).ok().ok_or("it is a script")?;
     let none = LaneSet {
         sq: 0,
         cq: 0,
@@ -107,7 +95,7 @@ fn acts_are_read(rt: HostRuntime) -> Result<(), Fail> {
         page: 0,
         byte: 0x5a,
     };
-    assert!(rt; act_at(&rt, rt.alloc(), "1 fill 0 5a\n")? == Some((1, fill)));
+    assert!(rt; act_at(rt.alloc(), "1 fill 0 5a\n")? == Some((1, fill)));
     let submit = Act::Submit {
         cid: 65535,
         op: Op::Verify,
@@ -118,7 +106,6 @@ fn acts_are_read(rt: HostRuntime) -> Result<(), Fail> {
     };
     assert!(rt;
         act_at(
-            &rt,
             rt.alloc(),
             "2 submit 65535 verify 18446744073709551615 65536 - 2\n"
         )? == Some((2, submit))
@@ -132,15 +119,15 @@ fn acts_are_read(rt: HostRuntime) -> Result<(), Fail> {
         bytes,
         used: 2,
     };
-    assert!(rt; act_at(&rt, rt.alloc(), "1 poke 1 4094 dead\n")? == Some((1, poke)));
+    assert!(rt; act_at(rt.alloc(), "1 poke 1 4094 dead\n")? == Some((1, poke)));
     let list = Act::List {
         page: 2,
         pages: [1, 2, 0, 0, 0, 0, 0, 0],
         used: 2,
     };
-    assert!(rt; act_at(&rt, rt.alloc(), "2 list 2 1 2\n")? == Some((2, list)));
-    assert!(rt; act_at(&rt, rt.alloc(), "2 wait\n")? == Some((2, Act::Wait)));
-    assert!(rt; act_at(&rt, rt.alloc(), "2 idle\n")? == Some((2, Act::Idle)));
+    assert!(rt; act_at(rt.alloc(), "2 list 2 1 2\n")? == Some((2, list)));
+    assert!(rt; act_at(rt.alloc(), "2 wait\n")? == Some((2, Act::Wait)));
+    assert!(rt; act_at(rt.alloc(), "2 idle\n")? == Some((2, Act::Idle)));
     Ok(())
 }
 
@@ -152,7 +139,7 @@ fn raw_entries_are_read(rt: HostRuntime) -> Result<(), Fail> {
     }
     line.push_str("\n")?;
     let raw = Act::Raw { entry: [0x0f; 64] };
-    assert!(rt; act_at(&rt, rt.alloc(), line.as_str())? == Some((1, raw)));
+    assert!(rt; act_at(rt.alloc(), line.as_str())? == Some((1, raw)));
     Ok(())
 }
 
@@ -167,13 +154,13 @@ fn acts_are_limited(rt: HostRuntime) -> Result<(), Fail> {
     }
     let mut most = text.clone()?;
     most.extend_from_slice(b"end\n")?;
-    assert!(rt; read(&rt, rt.alloc(), &most).is_ok());
+    assert!(rt; parse(rt.alloc(), &most).is_ok());
     text.extend_from_slice(b"1 wait\nend\n")?;
     let told = ParseRefusal::Bad(BadLine {
         line: 65550,
         why: Why::Range,
     });
-    assert!(rt; read(&rt, rt.alloc(), &text).err() == Some(told));
+    assert!(rt; parse(rt.alloc(), &text).err() == Some(told));
     Ok(())
 }
 
@@ -210,11 +197,10 @@ end
 
 /// Reads the script, and writes it to a sink whose calls of these numbers fail: the answer, and what was taken.
 fn rewritten(
-    rt: &impl Abort,
     alloc: Global,
     fails: &[u64],
 ) -> Result<(Result<(), Failed>, BytesSink), Fail> {
-    let Ok(script) = read(rt, alloc, EACH_ACT.as_bytes()) else {
+    let Ok(script) = parse(alloc, EACH_ACT.as_bytes()) else {
         return Err(Fail::from("no script"));
     };
     let fails = fails.to_vec(alloc)?;
@@ -226,25 +212,17 @@ fn rewritten(
 #[test]
 fn a_script_is_written(rt: HostRuntime) -> Result<(), Fail> {
     let text = EACH_ACT.as_bytes();
-    let (answer, whole) = rewritten(&rt, rt.alloc(), &[])?;
+    let (answer, whole) = rewritten(rt.alloc(), &[])?;
     assert!(rt; answer == Ok(()));
     assert!(rt; whole.bytes() == text);
     for (call, lines) in [(1, 0), (6, 5), (15, 14), (27, 26)] {
-        let (answer, front) = rewritten(&rt, rt.alloc(), &[call])?;
+        let (answer, front) = rewritten(rt.alloc(), &[call])?;
         assert!(rt; answer == Err(Failed));
         assert!(rt; text.starts_with(front.bytes()));
         let feeds = front.bytes().iter().filter(|byte| **byte == b'\n');
         assert_eq!(rt; feeds.count(), lines);
     }
     Ok(())
-}
-
-/// What the front of a text is read as, where it isn't too long.
-fn read_front(rt: &impl Abort, alloc: Global, text: &[u8]) -> Result<(Script, usize), ParseRefusal>
-    ensures { IfOk result (λ x. IsScript x.0) }
-{
-    assert!(rt; text.len() < 1 << 24);
-    parse_front(alloc, text)
 }
 
 /// The script and bytes behind it.
@@ -268,7 +246,7 @@ fn fronts_are_read(rt: HostRuntime) -> Result<(), Fail> {
         other,
     ] {
         let text = followed(rt.alloc(), behind)?;
-        let (read, end) = read_front(&rt, rt.alloc(), &text)
+        let (read, end) = parse_front(rt.alloc(), &text)
             .ok()
             .ok_or("a script is there")?;
         assert_eq!(rt; read.head.blocks, 130);
@@ -291,7 +269,7 @@ fn bad_fronts_are_told(rt: HostRuntime) -> Result<(), Fail> {
     ];
     for (line, text, why) in spoils {
         let text = spoilt(rt.alloc(), line, text)?;
-        let found = read_front(&rt, rt.alloc(), &text).err();
+        let found = parse_front(rt.alloc(), &text).err();
         assert!(rt; found == Some(ParseRefusal::Bad(BadLine {
             line: line as u32,
             why,

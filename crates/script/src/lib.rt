@@ -13,12 +13,14 @@ mod act;
 mod form;
 mod head;
 mod key;
+mod law;
 mod line;
 mod reader;
 mod refusal;
 mod value;
 mod write;
 
+pub use law::{one_bad_line, one_script};
 pub use nvm_model::{Act, Acts, Head, LaneSet, Script};
 use reader::read_front;
 pub use refusal::{BadLine, ParseRefusal, Why};
