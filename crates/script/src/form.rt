@@ -27,7 +27,7 @@ fn are_digits(word: &[u8]) -> bool
 {
     let mut rest = word;
     while let [digit, after @ ..] = rest {
-        if !digit.is_ascii_digit() {
+        if !matches!(digit, b'0'..=b'9') {
             return false;
         }
         rest = after;

@@ -89,18 +89,22 @@ pub fn op(word: &[u8]) -> Option<Op>
     ensures { result ≡ op_in word.now }
 {
     if word == b"flush".as_slice() {
-        Some(Op::Flush)
-    } else if word == b"write".as_slice() {
-        Some(Op::Write)
-    } else if word == b"read".as_slice() {
-        Some(Op::Read)
-    } else if word == b"compare".as_slice() {
-        Some(Op::Compare)
-    } else if word == b"zeroes".as_slice() {
-        Some(Op::WriteZeroes)
-    } else if word == b"verify".as_slice() {
-        Some(Op::Verify)
-    } else {
-        None
+        return Some(Op::Flush);
     }
+    if word == b"write".as_slice() {
+        return Some(Op::Write);
+    }
+    if word == b"read".as_slice() {
+        return Some(Op::Read);
+    }
+    if word == b"compare".as_slice() {
+        return Some(Op::Compare);
+    }
+    if word == b"zeroes".as_slice() {
+        return Some(Op::WriteZeroes);
+    }
+    if word == b"verify".as_slice() {
+        return Some(Op::Verify);
+    }
+    None
 }
