@@ -1,5 +1,4 @@
-pub mod PairsLemmas
+pub mod LaneLemmas
 pub mod PlanLemmas
-pub mod QueueLemmas
-pub mod TurnLemmas
+pub mod StepLemmas
 pub mod WorkLemmas

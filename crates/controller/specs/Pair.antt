@@ -1,7 +1,10 @@
-use Rattle.std.specs.Prelude.{◌≡◌, ℕ, ◌+◌, ◌-◌, ◌<◌, ◌≤◌, true, List, [], ◌∷◌, Option, Some, None, IsTrue, map, slice_index_or, slice_set, drop, take}
+use Rattle.std.specs.Prelude.{◌≡◌, ◌≢◌, ◌⊎◌, ℕ, ◌+◌, ◌-◌, ◌*◌, ◌<◌, ◌≤◌, false, true, All, List, [], ◌∷◌, ◌++◌, Option, Some, None, Result, IfErr, IfOk, IsTrue, MatchResult, length, map, slice_index_or, slice_set, drop, take}
 use Rattle.std.specs.List.{flat_map, range_with_len}
 use Rattle.nvm_values.specs.declared.op.Op.TheVariants.{Flush}
+use Rattle.nvm_values.specs.declared.sqe.Sqe.{Sqe}
+use Rattle.nvm_values.specs.Cqe.{CqeFields, cqe_bytes}
 use Rattle.nvm_values.specs.Op.{moves_data}
+use Rattle.nvm_values.specs.Sqe.{sqe_of}
 use Rattle.nvm_values.specs.Status.{StatusPair}
 use Rattle.nvm_model.specs.declared.command.Command.{Command}
 use Rattle.nvm_model.specs.declared.command.Outcome.{Outcome}
@@ -13,25 +16,32 @@ use Rattle.nvm_model.specs.declared.piece.PieceResult.{PieceResult}
 use Rattle.nvm_model.specs.declared.ring.RingState.{RingState}
 use Rattle.nvm_model.specs.declared.script.LaneSet.{LaneSet}
 use Rattle.nvm_model.specs.declared.script.Script.{Script}
-use Rattle.nvm_model.specs.Check.{pages_needed}
+use Rattle.nvm_model.specs.Check.{checked_command, pages_needed}
+use Rattle.nvm_model.specs.Memory.{page_at}
 use Rattle.nvm_model.specs.Piece.{after_piece, page_of, piece_count, pieces_left}
-use Rattle.nvm_model.specs.Queues.{HasEnds, HasWindow, IsOrdered}
-use Rattle.nvm_model.specs.Ring.{CqState}
+use Rattle.nvm_ring.specs.Queues.{HasEnds, HasWindow, IsOrdered}
+use Rattle.nvm_model.specs.Ring.{CqState, cell, places_between}
+use Rattle.nvm_model.specs.ScriptText.{IsSet}
 use Rattle.nvm_model.specs.Turn.{FetchesOn, PostsAll}
 use Rattle.nvm_model.specs.World.{Lane, set_of}
+use Rattle.nvm_ring.specs.declared.place.BadDoorbell.{BadDoorbell}
+use Rattle.nvm_ring.specs.Moves.{IsReadBack, after_fetch, after_post}
+use Rattle.nvm_ring.specs.Stands.{TakesReaped}
 use Rattle.nvm_cmd.specs.Answer.{job_of}
 use Rattle.nvm_cmd.specs.Cut.{piece_of}
-use Rattle.guest_ram.specs.Window.{WindowState}
+use Rattle.hall.specs.Plan.{PlanState, pieces_of}
+use Rattle.guest_ram.specs.Window.{WindowState, ctrl_written, data_pages}
 use Rattle.controller.specs.declared.controller.Phase.{Phase}
 
 -- The controller's part of a queue pair: its ends of the two rings, the commands that were fetched in this turn as they
--- were then, and what the last fetches and posts tell.
+-- were then, what the last fetches and posts tell, and for how many commands of a turn it has room.
 pub record PairState : Type 0 where
   pub sq : RingState
   pub cq : CqState
   pub commands : List Command
   pub fetched : List (ℕ × StatusPair × ℕ)
   pub posted : List (ℕ × StatusPair)
+  pub room : ℕ
 
 -- a controller: its queue pairs, that of lane 1 first, and the most fetches of a lane in a turn
 pub record ControllerState : Type 0 where
@@ -47,6 +57,7 @@ no_pair = record {
   commands = [];
   fetched = [];
   posted = [];
+  room = 0;
 }
 
 abbrev pub pair_of : ControllerState → ℕ → PairState
@@ -56,11 +67,17 @@ pair_of c k = slice_index_or c.pairs (k - 1) no_pair
 abbrev pub with_pair : ℕ → PairState → ControllerState → ControllerState
 with_pair k pair c = record c { pairs = slice_set c.pairs (k - 1) pair }
 
+-- the pair of lane k made such a step, and no other changed
+pub record AtLane (k : ℕ) (Step : PairState → PairState → Type 0) (old new : ControllerState) : Type 0 where
+  pub step : Step (pair_of old k) (pair_of new k)
+  pub others : new ≡ with_pair k (pair_of new k) old
+
 -- an empty pair of these sizes
-abbrev pub new_pair : LaneSet → PairState
-new_pair set = record no_pair {
+abbrev pub new_pair : ℕ → LaneSet → PairState
+new_pair room set = record no_pair {
   sq = record { size = set.sq; head = 0; tail = 0 };
   cq = record { ring = record { size = set.cq; head = 0; tail = 0 }; phase = true };
+  room = room;
 }
 
 -- The pieces of fetched commands.
@@ -122,6 +139,101 @@ fetch_line k told = line.Fetch k told.0 told.1 told.2
 abbrev pub post_line : ℕ → ℕ × StatusPair → Line
 post_line k told = line.Post k told.0 told.1
 
+-- The steps of a pair, by its own rings and whatever the window holds.
+
+-- a value is rung at the doorbell of the submission queue: a place of the ring is its tail from then on
+pub record RingsSq (value : ℕ) (result : Result (Unit {0}) BadDoorbell) (old new : PairState) : Type 0 where
+  pub exact : MatchResult result (λ _. value < old.sq.size) (λ _. old.sq.size ≤ value)
+  pub moved : IfOk result (λ _. new ≡ record old { sq = record old.sq { tail = value } })
+  pub same : IfErr result (λ bad. (bad ≡ record { value = value }) × (new ≡ old))
+
+-- how many entries lie between the head of the completion ring and a place
+abbrev pub places_up_to : CqState → ℕ → ℕ
+places_up_to cq place = places_between cq.ring.size cq.ring.head place
+
+-- a value is rung at that of the completion queue: one of the places from head to tail is its head from then on
+pub record RingsCq (value : ℕ) (result : Result (Unit {0}) BadDoorbell) (old new : PairState) : Type 0 where
+  pub exact : MatchResult result
+      (λ _. (value < old.cq.ring.size) × (places_up_to old.cq value ≤ places_up_to old.cq old.cq.ring.tail))
+      (λ _. value < old.cq.ring.size → places_up_to old.cq old.cq.ring.tail < places_up_to old.cq value)
+  pub moved : IfOk result (λ _. new ≡ record old { cq = record old.cq { ring = record old.cq.ring { head = value } } })
+  pub same : IfErr result (λ bad. (bad ≡ record { value = value }) × (new ≡ old))
+
+-- and it takes the place of any number of completions that the guest may have reaped
+pub record RingsReaped (value : ℕ) (result : Result (Unit {0}) BadDoorbell) (old new : PairState) : Type 0 where
+  pub takes : TakesReaped old.cq new.cq value result
+
+-- how many completions the ring has room for
+abbrev pub free_places : CqState → ℕ
+free_places cq = cq.ring.size - 1 - places_up_to cq cq.ring.tail
+
+-- a command may be fetched where an entry is there, and room for one more completion than the fetched commands need
+pub record MayFetch (pair : PairState) : Type 0 where
+  pub there : pair.sq.head ≢ pair.sq.tail
+  pub room : length pair.commands < free_places pair.cq
+
+-- the oldest entry, and its command
+abbrev pub next_entry : WindowState → PairState → Sqe
+next_entry window pair = sqe_of (cell 64 pair.sq.head (page_at window.pages 0))
+
+abbrev pub next_command : ℕ → WindowState → PairState → Command
+next_command blocks window pair = checked_command blocks window.lane (data_pages window) pair.commands (next_entry window pair)
+
+-- a pair that fetched one more command
+abbrev pub with_command : ℕ → Command → PairState → PairState
+with_command shelf command pair = record pair { sq = after_fetch pair.sq; commands = pair.commands ++ command ∷ []; fetched = pair.fetched ++ told_fetch shelf command ∷ [] }
+
+-- these commands were fetched, one after another
+abbrev pub FetchSteps : ℕ → ℕ → WindowState → List Command → PairState → PairState → Type 0
+FetchSteps blocks shelf window [] old new = new ≡ old
+FetchSteps blocks shelf window (command ∷ commands) old new = MayFetch old × (command ≡ next_command blocks window old) × FetchSteps blocks shelf window commands (with_command shelf command old) new
+
+-- a plan with more pieces of a lane
+abbrev pub with_pieces : ℕ → List Piece → PlanState → PlanState
+with_pieces k pieces plan = record plan { lanes = slice_set plan.lanes (k - 1) (pieces_of plan k ++ pieces) }
+
+-- The fetches of a turn: until as many commands are fetched as a turn may have, or none may be any more. Their pieces
+-- stand in the plan behind the others, and where none was fetched before, what is told is told of these.
+pub record FetchesTurn (k blocks shelf burst : ℕ) (window : WindowState) (plan new_plan : PlanState) (old new : PairState) : Type 0 where
+  pub commands : List Command
+  pub steps : FetchSteps blocks shelf window commands old new
+  pub stops : (length new.commands ≡ burst) ⊎ (MayFetch new → ⊥)
+  pub planned : new_plan ≡ with_pieces k (lane_pieces k shelf commands) plan
+  pub fits : All (IsFetched blocks (length (data_pages window))) commands
+  pub few : length new.commands ≤ burst
+  pub told : old.commands ≡ [] → new.fetched ≡ map (told_fetch shelf) new.commands
+
+-- the commands after their pieces ended so, of which that many were told of each
+abbrev pub ended : List Command → List (ℕ × StatusPair × ℕ) → List Outcome → List Command
+ended [] told outcomes = []
+ended (command ∷ commands) [] outcomes = []
+ended (command ∷ commands) (t ∷ told) outcomes = after_pieces command (take t.2 outcomes) ∷ ended commands told (drop t.2 outcomes)
+
+abbrev pub told_post : Command → ℕ × StatusPair
+told_post command = (command.cid, command.status)
+
+-- the completion of a command as its queue's next entry
+abbrev pub next_completion : ℕ → ℕ × StatusPair → PairState → CqeFields
+next_completion k told pair = record { dw0 = 0; dw1 = 0; sqhd = pair.sq.head; sqid = k; cid = told.0; phase = pair.cq.phase; status = told.1; mid = 0; more = false; dnr = false }
+
+-- a pair that posted one more completion, and the window then
+abbrev pub with_post : ℕ × StatusPair → PairState → PairState
+with_post told pair = record pair { cq = after_post pair.cq; posted = pair.posted ++ told ∷ [] }
+
+abbrev pub with_entry : CqeFields → PairState → WindowState → WindowState
+with_entry entry pair window = ctrl_written window 1 (16 * pair.cq.ring.tail) (cqe_bytes entry)
+
+-- these completions were posted, one after another
+abbrev pub PostSteps : ℕ → List (ℕ × StatusPair) → PairState → WindowState → PairState → WindowState → Type 0
+PostSteps k [] old window new new_window = (new ≡ old) × (new_window ≡ window)
+PostSteps k (told ∷ all) old window new new_window =
+    IsReadBack (next_completion k told old) × PostSteps k all (with_post told old) (with_entry (next_completion k told old) old window) new new_window
+
+-- the posts of a turn: a completion of each fetched command, in their order
+abbrev pub PostsTurn : ℕ → List PieceResult → WindowState → WindowState → PairState → PairState → Type 0
+PostsTurn k results window new_window old new =
+    PostSteps k (map told_post (ended old.commands old.fetched (outcomes_of results))) (record old { commands = []; fetched = []; posted = [] }) window new new_window
+
 -- The controller's part of a lane.
 
 -- the controller's ends and the lane's window stand for a lane
@@ -150,3 +262,13 @@ pub record Posts (s : Script) (k : ℕ) (lane : Lane) (pair : PairState) (window
   pub new : Lane
   pub stands : Stands k (set_of s.head k) pair window new
   pub posts : PostsAll s k lane (map (post_line k) pair.posted) new
+
+-- what the fetches of a turn, and its posts, are for a lane of the model
+abbrev pub FetchesLane : ℕ → ℕ → ℕ → ℕ → WindowState → PairState → PairState → Type 0
+FetchesLane k blocks shelf burst window old new =
+    (s : Script) (l : Lane) → IsAsked s blocks shelf burst → IsSet (set_of s.head k) → Stands k (set_of s.head k) old window l → l.running ≡ [] → old.commands ≡ [] → Fetches s k l new window
+
+abbrev pub PostsLane : ℕ → List PieceResult → WindowState → WindowState → PairState → PairState → Type 0
+PostsLane k results window new_window old new =
+    (s : Script) (l : Lane) → IsSet (set_of s.head k) → old.fetched ≡ map (told_fetch s.head.shelf) old.commands → Stands k (set_of s.head k) old window l
+    → l.running ≡ worked s.head.shelf old.commands (outcomes_of results) → Posts s k l new new_window

@@ -1,84 +1,50 @@
-use Rattle.std.specs.Prelude.{◌≡◌, ℕ, ◌+◌, ◌-◌, ◌%◌, ◌<◌, List, [], ◌∷◌, ◌++◌, Option, Some, None, drop, length, map, slice_get, slice_index_or, slice_set, vec_capacity}
+use Rattle.std.specs.Prelude.{◌≡◌, ℕ, ◌*◌, ◌≤◌, All, List, [], ◌∷◌, ◌++◌, Option, Some, None, length}
 use Rattle.nvm_values.specs.declared.op.Op.{Op}
 use Rattle.nvm_values.specs.declared.sqe.Sqe.{Sqe}
 use Rattle.nvm_values.specs.Status.{StatusPair}
 use Rattle.nvm_model.specs.declared.command.Command.{Command}
 use Rattle.nvm_model.specs.declared.command.Outcome.{Outcome}
 use Rattle.nvm_model.specs.declared.command.Work.{Work}
-use Rattle.nvm_model.specs.declared.piece.Piece.{Piece}
-use Rattle.nvm_model.specs.declared.ring.RingState.{RingState}
-use Rattle.nvm_model.specs.declared.script.LaneSet.{LaneSet}
-use Rattle.nvm_model.specs.declared.script.Script.{Script}
-use Rattle.nvm_model.specs.Event.{phase_of}
-use Rattle.nvm_model.specs.Memory.{page_at}
 use Rattle.nvm_model.specs.Piece.{join_status}
-use Rattle.nvm_model.specs.Queues.{sq_of}
-use Rattle.nvm_model.specs.Ring.{IsSqRing}
-use Rattle.nvm_model.specs.Turn.{LaneEvents}
-use Rattle.nvm_model.specs.World.{Lane, set_of}
-use Rattle.guest_ram.specs.Window.{WindowState}
-use Rattle.hall.specs.Plan.{PlanState, pieces_of}
-use Rattle.controller.specs.declared.pair.Pair.{Pair}
-use Rattle.controller.specs.Pair.{PairState, Stands, fetch_line, post_line}
+use Rattle.nvm_ring.specs.Moves.{after_fetch}
+use Rattle.guest_ram.specs.Window.{WindowState, data_pages}
+use Rattle.hall.specs.Plan.{PlanState}
+use Rattle.controller.specs.Pair.{FetchSteps, IsFetched, MayFetch, PairState, PostSteps, free_places, lane_pieces, next_entry, with_pieces}
 
--- Inside the crate: what the parts of a lane's turn do.
+-- Inside the crate.
 
--- a pair, as contracts see it
-abbrev pub seen : Pair → PairState
-seen pair = record { sq = pair.sq; cq = pair.cq; commands = pair.commands.items; fetched = pair.fetched.items; posted = pair.posted.items }
+-- What always holds of a pair: it has told each fetched command, may fetch no more of them than a turn has, and has room
+-- for the completion of each.
+pub record IsPair (pair : PairState) : Type 0 where
+  pub told : length pair.fetched ≡ length pair.commands
+  pub few : length pair.commands ≤ pair.room
+  pub space : length pair.commands ≤ free_places pair.cq
+  pub most : pair.room ≤ 64
 
--- a pair has room for the commands of a turn
-pub record HasRoom (burst : ℕ) (pair : Pair) : Type 0 where
-  pub commands : vec_capacity pair.commands ≡ burst
-  pub fetched : vec_capacity pair.fetched ≡ burst
-  pub posted : vec_capacity pair.posted ≡ burst
+-- it has taken room for what a turn may have of each
+pub record HasRoom (room commands fetched posted : ℕ) : Type 0 where
+  pub commands_are : commands ≡ room
+  pub fetched_are : fetched ≡ room
+  pub posted_are : posted ≡ room
 
-abbrev pub HaveRoom : ℕ → List Pair → Type 0
-HaveRoom burst pairs = (i : ℕ) (d : Pair) → i < length pairs → HasRoom burst (slice_index_or pairs i d)
-
--- the controller may fetch: an entry is there, and the completion queue has a place for its completion
-pub record CanFetch (set : LaneSet) (lane : Lane) : Type 0 where
-  pub there : lane.fetched < length lane.submitted
-  pub free : length lane.running + (length lane.posted - lane.reaped) < set.cq - 1
-
--- the oldest entry that wasn't fetched was taken
-pub record TookOldest (set : LaneSet) (window : WindowState) (sq : RingState) (lane : Lane) (entry : Sqe) : Type 0 where
-  pub can : CanFetch set lane
-  pub oldest : slice_get lane.submitted lane.fetched ≡ Some entry
-  pub sq_is : sq ≡ sq_of set (record lane { fetched = lane.fetched + 1 })
-  pub entries : IsSqRing sq (page_at window.pages 0) (drop (lane.fetched + 1) lane.submitted)
-
--- what came of a look at the submission queue: nothing may be fetched, or the oldest entry was taken
-abbrev pub Takes : LaneSet → WindowState → RingState → Lane → Option Sqe → Type 0
-Takes set window sq lane None = CanFetch set lane → ⊥
-Takes set window sq lane (Some entry) = TookOldest set window sq lane entry
-
--- a plan with more pieces of a lane
-abbrev pub with_pieces : ℕ → List Piece → PlanState → PlanState
-with_pieces k pieces plan = record plan { lanes = slice_set plan.lanes (k - 1) (pieces_of plan k ++ pieces) }
+-- the oldest entry is taken, where it may be
+abbrev pub TakesEntry : WindowState → PairState → PairState → Option Sqe → Type 0
+TakesEntry window old new None = (MayFetch old → ⊥) × (new ≡ old)
+TakesEntry window old new (Some entry) = MayFetch old × (entry ≡ next_entry window old) × (new ≡ record old { sq = after_fetch old.sq })
 
 -- the fetches of a turn as far as they were made
-pub record HasFetched (s : Script) (k : ℕ) (lane : Lane) (pair : PairState) (window : WindowState) : Type 0 where
-  pub new : Lane
-  pub stands : Stands k (set_of s.head k) pair window new
-  pub running : new.running ≡ pair.commands
-  pub steps : LaneEvents s lane (map (fetch_line k) pair.fetched) new
-  pub reaped : new.reaped ≡ length new.posted
-  pub pages : new.pages ≡ lane.pages
+pub record HasFetched (k blocks shelf : ℕ) (window : WindowState) (plan now_plan : PlanState) (old now : PairState) : Type 0 where
+  pub commands : List Command
+  pub steps : FetchSteps blocks shelf window commands old now
+  pub planned : now_plan ≡ with_pieces k (lane_pieces k shelf commands) plan
+  pub fits : All (IsFetched blocks (length (data_pages window))) commands
+  pub few : length (lane_pieces k shelf commands) ≤ 64 * length commands
 
--- a lane after the completion of its oldest command was posted
-abbrev pub with_completion : LaneSet → ℕ → StatusPair → List Command → Lane → Lane
-with_completion set cid status others lane = record lane {
-  running = others;
-  posted = lane.posted ++ record { cid = cid; status = status; head = lane.fetched % set.sq; phase = phase_of set.cq (length lane.posted) } ∷ [];
-}
-
--- the posts of a turn as far as they were made, where these commands run still
-pub record HasPosted (s : Script) (k : ℕ) (lane : Lane) (running : List Command) (pair : PairState) (window : WindowState) : Type 0 where
-  pub new : Lane
-  pub stands : Stands k (set_of s.head k) pair window new
-  pub running_are : new.running ≡ running
-  pub steps : LaneEvents s lane (map (post_line k) pair.posted) new
+-- the posts of a turn as far as they were made, where these are left of all
+pub record HasPosted (k : ℕ) (all rest : List (ℕ × StatusPair)) (old : PairState) (window : WindowState) (now : PairState) (now_window : WindowState) : Type 0 where
+  pub done : List (ℕ × StatusPair)
+  pub steps : PostSteps k done old window now now_window
+  pub all_is : all ≡ done ++ rest
 
 -- a status after pieces of a command that ended so
 abbrev pub joined_with : Op → List Outcome → StatusPair → StatusPair

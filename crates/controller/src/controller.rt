@@ -1,16 +1,12 @@
-ghost use Rattle.std.specs.Prelude.{◌≡◌, ◌+◌, ◌-◌, ◌*◌, ◌/◌, ◌<◌, ◌≤◌, ◌++◌, [], All, IfErr, IfOk, MatchResult, length, map, slice_set, sum};
+ghost use Rattle.std.specs.Prelude.{◌≡◌, ◌+◌, ◌*◌, ◌/◌, ◌≤◌, IfOk, All, length, map, sum};
 ghost use Rattle.nvm_values.specs.declared.op.Op.TheVariants.{Flush, Read};
-ghost use Rattle.nvm_model.specs.declared.script.Script.{Script};
-ghost use Rattle.nvm_model.specs.Ring.{places_between};
 ghost use Rattle.nvm_model.specs.ScriptText.{IsSet};
-ghost use Rattle.nvm_model.specs.World.{Lane, set_of};
-ghost use Rattle.nvm_ring.specs.Stands.{TakesReaped};
 ghost use Rattle.guest_ram.specs.Window.{data_pages};
 ghost use Rattle.hall.specs.Plan.{pieces_of};
 ghost use Rattle.nvm_blocks.specs.Namespace.{HasAppliedIn, HasRoom, IsForNamespace, entries_of, with_entry};
 ghost use Rattle.nvm_blocks.specs.Work.{IsSameButData};
 ghost use Rattle.controller.specs.declared.controller.Phase.TheVariants.{Running};
-ghost use Rattle.controller.specs.Pair.{Fetches, IsAsked, IsFetched, Posts, Stands, lane_pieces, new_pair, outcomes_of, pair_of, told_fetch, with_pair, worked};
+ghost use Rattle.controller.specs.Pair.{AtLane, FetchesLane, FetchesTurn, PostsLane, PostsTurn, RingsCq, RingsReaped, RingsSq, new_pair, pair_of};
 
 use crate::PairSet;
 use crate::pair::Pair;
@@ -46,15 +42,14 @@ pub struct Controller {
 }
 
 impl Model for Controller {
-    ghost use Rattle.std.specs.Prelude.{◌≤◌, length, map};
+    ghost use Rattle.std.specs.Prelude.{◌≡◌, ◌≤◌, All};
     ghost use Rattle.controller.specs.Pair.{ControllerState};
-    ghost use Rattle.controller.specs.Parts.{HaveRoom, seen};
 
     ghost Value = { ControllerState };
 
-    ghost view = { λ c. record { pairs = map seen c.pairs.items; burst = c.burst; phase = c.phase } };
+    ghost view = { λ c. record { pairs = c.pairs.items; burst = c.burst; phase = c.phase } };
 
-    ghost invariant = { λ c. HaveRoom c.burst c.pairs.items × (c.burst ≤ 64) };
+    ghost invariant = { λ c. All (λ p. p.room ≡ c.burst) c.pairs.items × (c.burst ≤ 64) };
 }
 
 impl Controller {
@@ -70,11 +65,11 @@ impl Controller {
         cells: u32,
         burst: u32,
     ) -> Result<Controller, OutOfMemory>
-        requires some { 1 ≤ length pairs.now }
-        requires few { length pairs.now ≤ 8 }
+        requires pairs { (1 ≤ length pairs.now) × (length pairs.now ≤ 8) }
         requires sets { All IsSet pairs.now }
         requires burst { (1 ≤ burst) × (burst ≤ 64) }
-        ensures made { IfOk result (λ c. c ≡ record { pairs = map new_pair pairs.now; burst = burst; phase = Running }) }
+        ensures made { IfOk result
+            (λ c. c ≡ record { pairs = map (new_pair burst) pairs.now; burst = burst; phase = Running }) }
     {
         let mut all = Vec::with_capacity(alloc, pairs.len())?;
         'pairs: for set in pairs {
@@ -100,16 +95,11 @@ impl Controller {
     ///
     /// `BadDoorbell` exactly where the value is the ring's size or more; nothing changed then.
     pub fn ring_sq(&mut self, lane: LaneNo, value: u16) -> Result<(), BadDoorbell>
-        requires there { lane ≤ length self.old.pairs }
-        ensures exact { MatchResult result
-            (λ _. value < (pair_of self.old lane).sq.size)
-            (λ e. (pair_of self.old lane).sq.size ≤ value) }
-        ensures moved { IfOk result (λ _. self.new ≡ with_pair lane (record (pair_of self.old lane) { sq = record (pair_of self.old lane).sq { tail = value } }) self.old) }
-        ensures same { IfErr result (λ _. self.new ≡ self.old) }
-        ensures told { IfErr result (λ e. e ≡ record { value = value }) }
+        requires { lane ≤ length self.old.pairs }
+        ensures { AtLane lane (RingsSq value result) self.old self.new }
     {
         let pair = &mut self.pairs[usize::from(lane.get()) - 1];
-        pair.sq.set_tail(value)
+        pair.ring_sq(value)
     }
 
     /// The guest of a lane rings the doorbell of its completion queue (Base 2.1, completion queue head doorbell).
@@ -118,47 +108,29 @@ impl Controller {
     ///
     /// `BadDoorbell` exactly where the value isn't one of the places from head to tail in ring order; nothing changed then.
     pub fn ring_cq(&mut self, lane: LaneNo, value: u16) -> Result<(), BadDoorbell>
-        requires there { lane ≤ length self.old.pairs }
-        ensures accepted { IfOk result (λ _. (value < (pair_of self.old lane).cq.ring.size)
-            × (places_between (pair_of self.old lane).cq.ring.size (pair_of self.old lane).cq.ring.head value
-            ≤ places_between (pair_of self.old lane).cq.ring.size (pair_of self.old lane).cq.ring.head (pair_of self.old lane).cq.ring.tail)) }
-        ensures refused { IfErr result (λ _. value < (pair_of self.old lane).cq.ring.size
-            → places_between (pair_of self.old lane).cq.ring.size (pair_of self.old lane).cq.ring.head (pair_of self.old lane).cq.ring.tail
-            < places_between (pair_of self.old lane).cq.ring.size (pair_of self.old lane).cq.ring.head value) }
-        ensures moved { IfOk result (λ _. self.new ≡ with_pair lane (record (pair_of self.old lane) { cq = record (pair_of self.old lane).cq { ring = record (pair_of self.old lane).cq.ring { head = value } } }) self.old) }
-        ensures same { IfErr result (λ _. self.new ≡ self.old) }
-        ensures told { IfErr result (λ e. e ≡ record { value = value }) }
-        ensures rung { TakesReaped (pair_of self.old lane).cq (pair_of self.new lane).cq value result }
+        requires { lane ≤ length self.old.pairs }
+        ensures step { AtLane lane (RingsCq value result) self.old self.new }
+        ensures rung { AtLane lane (RingsReaped value result) self.old self.new }
     {
         let pair = &mut self.pairs[usize::from(lane.get()) - 1];
-        pair.cq.set_head(value)
+        pair.ring_cq(value)
     }
 
-    /// Fetches commands of a lane, checks them, and puts their pieces into the plan: until `burst` were fetched, none is
-    /// left, or the completion queue has no room for another completion. `w` is the lane's window, the namespace has
-    /// `blocks` blocks in shelves of `shelf`.
+    /// Fetches commands of a lane, checks them, and puts their pieces into the plan: until `burst` were fetched in this
+    /// turn, none is left, or the completion queue has no room for another completion. `w` is the lane's window, the
+    /// namespace has `blocks` blocks in shelves of `shelf`.
     pub fn fetch_turn(&mut self, lane: LaneNo, w: &Window, blocks: u32, shelf: u32, plan: &mut Plan)
         requires running { self.old.phase ≡ Running }
-        requires there { lane ≤ length self.old.pairs }
+        requires there { (lane ≤ length self.old.pairs) × (lane ≤ length plan.old.lanes) }
         requires shelf { 1 ≤ shelf }
-        requires blocks { blocks ≤ 131072 }
-        requires window { (w.now.lane ≡ lane) × (2 ≤ length w.now.pages) × (length w.now.pages ≤ 258) }
-        requires planned { lane ≤ length plan.old.lanes }
+        requires window { (w.now.lane ≡ lane) × (2 ≤ length w.now.pages) }
         requires room { length (pieces_of plan.old lane) + 64 * self.old.burst ≤ plan.old.room }
-        requires between { (pair_of self.old lane).commands ≡ [] }
-
-        ensures fetches { (s : Script) (l : Lane) → IsAsked s blocks shelf self.old.burst → IsSet (set_of s.head lane) → Stands lane (set_of s.head lane) (pair_of self.old lane) w.now l → l.running ≡ [] → l.reaped ≡ length l.posted
-            → Fetches s lane l (pair_of self.new lane) w.now }
-        ensures told { (pair_of self.new lane).fetched ≡ map (told_fetch shelf) (pair_of self.new lane).commands }
-        ensures checked { All (IsFetched blocks (length (data_pages w.now))) (pair_of self.new lane).commands }
-        ensures few { length (pair_of self.new lane).commands ≤ self.old.burst }
-        ensures counted { length (lane_pieces lane shelf (pair_of self.new lane).commands) ≡ sum (map (λ f. f.2) (pair_of self.new lane).fetched) }
-        ensures planned { plan.new ≡ record plan.old { lanes = slice_set plan.old.lanes (lane - 1) (pieces_of plan.old lane ++ lane_pieces lane shelf (pair_of self.new lane).commands) } }
-        ensures others { self.new ≡ with_pair lane (pair_of self.new lane) self.old }
+        ensures step { AtLane lane (FetchesTurn lane blocks shelf self.old.burst w.now plan.old plan.new)
+            self.old self.new }
+        ensures fetches { AtLane lane (FetchesLane lane blocks shelf self.old.burst w.now) self.old self.new }
     {
-        let burst = self.burst;
         let pair = &mut self.pairs[usize::from(lane.get()) - 1];
-        pair.fetch_turn(lane, w, blocks, shelf, burst, plan);
+        pair.fetch_turn(lane, w, blocks, shelf, plan);
     }
 
     /// The commands of a lane that were fetched in this turn, in order: identifier, status, and number of pieces.
@@ -166,7 +138,7 @@ impl Controller {
         requires { lane ≤ length self.now.pairs }
         ensures { result.now ≡ (pair_of self.now lane).fetched }
     {
-        self.pairs[usize::from(lane.get()) - 1].fetched.as_slice()
+        self.pairs[usize::from(lane.get()) - 1].fetched()
     }
 
     /// Does a piece of a lane of a turn on one thread: a piece of from 1 to 64 blocks, all in one shelf, that isn't a
@@ -194,21 +166,14 @@ impl Controller {
     }
 
     /// Posts the completions of a lane's fetched commands. `results` has one result for each piece of the lane's plan, in
-    /// its order.
+    /// its order, and `w` is the lane's window.
     pub fn finish_turn(&mut self, lane: LaneNo, results: &[PieceResult], w: &mut Window)
         requires there { lane ≤ length self.old.pairs }
         requires window { (w.old.lane ≡ lane) × (2 ≤ length w.old.pages) }
         requires results { length results.now ≡ sum (map (λ f. f.2) (pair_of self.old lane).fetched) }
-        requires told { length (pair_of self.old lane).fetched ≡ length (pair_of self.old lane).commands }
-
-        ensures posts { (s : Script) (l : Lane) → IsSet (set_of s.head lane) → (pair_of self.old lane).fetched ≡ map (told_fetch s.head.shelf) (pair_of self.old lane).commands
-            → Stands lane (set_of s.head lane) (pair_of self.old lane) w.old l → l.running ≡ worked s.head.shelf (pair_of self.old lane).commands (outcomes_of results.now)
-            → Posts s lane l (pair_of self.new lane) w.new }
-        ensures between { ((pair_of self.new lane).commands ≡ []) × ((pair_of self.new lane).fetched ≡ []) }
-        ensures few { length (pair_of self.new lane).posted ≤ length (pair_of self.old lane).commands }
-        ensures memory { data_pages w.new ≡ data_pages w.old }
+        ensures step { AtLane lane (PostsTurn lane results.now w.old w.new) self.old self.new }
+        ensures posts { AtLane lane (PostsLane lane results.now w.old w.new) self.old self.new }
         ensures window { (w.new.lane ≡ w.old.lane) × (length w.new.pages ≡ length w.old.pages) }
-        ensures others { self.new ≡ with_pair lane (pair_of self.new lane) self.old }
     {
         let pair = &mut self.pairs[usize::from(lane.get()) - 1];
         pair.finish_turn(lane, results, w);
@@ -219,6 +184,6 @@ impl Controller {
         requires { lane ≤ length self.now.pairs }
         ensures { result.now ≡ (pair_of self.now lane).posted }
     {
-        self.pairs[usize::from(lane.get()) - 1].posted.as_slice()
+        self.pairs[usize::from(lane.get()) - 1].posted()
     }
 }

@@ -1,20 +1,17 @@
 // A queue pair's part of a turn: it fetches and posts.
-ghost use Rattle.std.specs.Prelude.{◌≡◌, ℕ, ◌+◌, ◌-◌, ◌*◌, ◌<◌, ◌≤◌, ◌++◌, ◌∷◌, [], All, IfNone, IfOk, List, drop, length, map, slice_index_or, sum, vec_len, vec_capacity};
+ghost use Rattle.std.specs.Prelude.{◌≡◌, ℕ, ◌+◌, ◌*◌, ◌^◌, ◌<◌, ◌≤◌, IfOk, drop, length, map, slice_index_or, sum};
 ghost use Rattle.std.specs.List.{range_with_len};
+ghost use Rattle.nvm_values.specs.Cqe.{cqe_bytes};
 ghost use Rattle.nvm_values.specs.Status.{StatusPair};
-ghost use Rattle.nvm_model.specs.declared.command.Command.{Command};
-ghost use Rattle.nvm_model.specs.declared.script.LaneSet.{LaneSet};
-ghost use Rattle.nvm_model.specs.declared.script.Script.{Script};
-ghost use Rattle.nvm_model.specs.Memory.{with_bytes};
 ghost use Rattle.nvm_model.specs.Piece.{piece_count, pieces_left};
 ghost use Rattle.nvm_model.specs.Ring.{cell};
 ghost use Rattle.nvm_model.specs.ScriptText.{IsSet};
-ghost use Rattle.nvm_model.specs.World.{Lane, set_of};
-ghost use Rattle.guest_ram.specs.Window.{data_pages};
+ghost use Rattle.guest_ram.specs.Window.{ctrl_written};
+ghost use Rattle.nvm_ring.specs.Moves.{IsReadBack, after_post, with_phase};
 ghost use Rattle.nvm_cmd.specs.Cut.{piece_of};
 ghost use Rattle.hall.specs.Plan.{pieces_of};
-ghost use Rattle.controller.specs.Pair.{Fetches, IsAsked, IsFetched, Posts, Stands, command_pieces, lane_pieces, new_pair, outcomes_of, told_fetch, worked};
-ghost use Rattle.controller.specs.Parts.{HasRoom, Takes, joined, seen, with_completion, with_pieces};
+ghost use Rattle.controller.specs.Pair.{FetchesLane, FetchesTurn, IsFetched, PostsLane, PostsTurn, RingsCq, RingsReaped, RingsSq, command_pieces, free_places, new_pair, outcomes_of, with_pieces};
+ghost use Rattle.controller.specs.Parts.{TakesEntry, joined};
 
 use crate::PairSet;
 use crate::check::check;
@@ -23,40 +20,98 @@ use hall::Plan;
 use mig_base::{LaneNo, OutOfMemory};
 use nvm_cmd::{Job, finish, join_status, piece, piece_count};
 use nvm_model::{Command, PieceResult, RingState};
-use nvm_ring::{CqRing, SqRing};
-use nvm_values::{Sqe, Status};
+use nvm_ring::{BadDoorbell, CqRing, SqRing};
+use nvm_values::{Cqe, Sqe, Status};
 use std::alloc::Global;
+use std::marker::Model;
 
 /// The controller's part of a queue pair.
 #[derive(Drop)]
 pub(crate) struct Pair {
-    pub(crate) sq: SqRing,
-    pub(crate) cq: CqRing,
+    sq: SqRing,
+    cq: CqRing,
     // Those that were fetched in this turn, as they were then.
     commands: Vec<Command>,
     // What is told of them, and of the completions that were posted last.
-    pub(crate) fetched: Vec<(u16, Status, u32)>,
-    pub(crate) posted: Vec<(u16, Status)>,
+    fetched: Vec<(u16, Status, u32)>,
+    posted: Vec<(u16, Status)>,
+    // The most commands of a turn.
+    room: u32,
+}
+
+impl Model for Pair {
+    ghost use Rattle.std.specs.Prelude.{vec_capacity};
+    ghost use Rattle.controller.specs.Pair.{PairState};
+    ghost use Rattle.controller.specs.Parts.{HasRoom, IsPair};
+
+    ghost Value = { PairState };
+
+    ghost view = { λ p. record {
+      sq = p.sq;
+      cq = p.cq;
+      commands = p.commands.items;
+      fetched = p.fetched.items;
+      posted = p.posted.items;
+      room = p.room;
+    } };
+
+    ghost invariant = { λ p. IsPair (record {
+      sq = p.sq;
+      cq = p.cq;
+      commands = p.commands.items;
+      fetched = p.fetched.items;
+      posted = p.posted.items;
+      room = p.room;
+    }) × HasRoom p.room (vec_capacity p.commands) (vec_capacity p.fetched) (vec_capacity p.posted) };
 }
 
 impl Pair {
-    /// An empty pair, with room for so many commands.
+    /// An empty pair, with room for so many commands of a turn.
     ///
     /// # Errors
     ///
     /// `OutOfMemory` where there is no memory for them.
-    pub(crate) fn make(alloc: Global, set: &PairSet, burst: u32) -> Result<Pair, OutOfMemory>
+    pub(crate) fn make(alloc: Global, set: &PairSet, room: u32) -> Result<Pair, OutOfMemory>
         requires set { IsSet set.now }
-        ensures new { IfOk result (λ pair. seen pair ≡ new_pair set.now) }
-        ensures room { IfOk result (λ pair. HasRoom burst pair) }
+        requires few { room ≤ 64 }
+        ensures { IfOk result (λ pair. pair ≡ new_pair room set.now) }
     {
         Ok(Pair {
             sq: SqRing::new(start(set.sq)),
             cq: CqRing::new(start(set.cq), true),
-            commands: Vec::with_capacity(alloc, burst as usize)?,
-            fetched: Vec::with_capacity(alloc, burst as usize)?,
-            posted: Vec::with_capacity(alloc, burst as usize)?,
+            commands: Vec::with_capacity(alloc, room as usize)?,
+            fetched: Vec::with_capacity(alloc, room as usize)?,
+            posted: Vec::with_capacity(alloc, room as usize)?,
+            room,
         })
+    }
+
+    /// The doorbell of the submission queue is rung.
+    pub(crate) fn ring_sq(&mut self, value: u16) -> Result<(), BadDoorbell>
+        ensures { RingsSq value result self.old self.new }
+    {
+        self.sq.set_tail(value)
+    }
+
+    /// The doorbell of the completion queue is rung.
+    pub(crate) fn ring_cq(&mut self, value: u16) -> Result<(), BadDoorbell>
+        ensures step { RingsCq value result self.old self.new }
+        ensures rung { RingsReaped value result self.old self.new }
+    {
+        self.cq.set_head(value)
+    }
+
+    /// The commands that were fetched in this turn, and the completions that the last `finish_turn` posted.
+    pub(crate) fn fetched(&self) -> &[(u16, Status, u32)]
+        ensures { result.now ≡ self.now.fetched }
+    {
+        self.fetched.as_slice()
+    }
+
+    pub(crate) fn posted(&self) -> &[(u16, Status)]
+        ensures { result.now ≡ self.now.posted }
+    {
+        self.posted.as_slice()
     }
 
     /// Fetches commands, checks them, and puts their pieces into the plan.
@@ -66,30 +121,17 @@ impl Pair {
         w: &Window,
         blocks: u32,
         shelf: u32,
-        burst: u32,
         plan: &mut Plan,
     )
         requires shelf { 1 ≤ shelf }
-        requires blocks { blocks ≤ 131072 }
-        requires burst { burst ≤ 64 }
-        requires has_room { HasRoom burst self.old }
-        requires window { (w.now.lane ≡ lane) × (2 ≤ length w.now.pages) }
+        requires pages { 2 ≤ length w.now.pages }
         requires planned { (1 ≤ lane) × (lane ≤ length plan.old.lanes) }
-        requires room { length (pieces_of plan.old lane) + 64 * burst ≤ plan.old.room }
-        requires between { self.old.commands.items ≡ [] }
-
-        ensures fetches { (s : Script) (l : Lane) → IsAsked s blocks shelf burst → IsSet (set_of s.head lane) → Stands lane (set_of s.head lane) (seen self.old) w.now l → l.running ≡ [] → l.reaped ≡ length l.posted
-            → Fetches s lane l (seen self.new) w.now }
-        ensures told { self.new.fetched.items ≡ map (told_fetch shelf) self.new.commands.items }
-        ensures checked { All (IsFetched blocks (length (data_pages w.now))) self.new.commands.items }
-        ensures few { length self.new.commands.items ≤ burst }
-        ensures counted { length (lane_pieces lane shelf self.new.commands.items) ≡ sum (map (λ f. f.2) self.new.fetched.items) }
-        ensures planned { plan.new ≡ with_pieces lane (lane_pieces lane shelf self.new.commands.items) plan.old }
-        ensures has_room { HasRoom burst self.new }
-        ensures posted { self.new.posted ≡ self.old.posted }
+        requires space { length (pieces_of plan.old lane) + 64 * self.old.room ≤ plan.old.room }
+        ensures step { FetchesTurn lane blocks shelf self.old.room w.now plan.old plan.new self.old self.new }
+        ensures fetches { FetchesLane lane blocks shelf self.old.room w.now self.old self.new }
+        ensures room { self.new.room ≡ self.old.room }
     {
-        self.fetched.clear();
-        'fetches: for _done in 0..burst {
+        'fetches: for _done in self.commands.len()..self.room as usize {
             let Some(entry) = self.take_entry(w) else {
                 return;
             };
@@ -103,76 +145,39 @@ impl Pair {
 
     /// Takes the oldest entry out of the submission queue, where one is there and its completion has room.
     fn take_entry(&mut self, w: &Window) -> Option<Sqe>
-        requires pages { 2 ≤ length w.now.pages }
-        ensures took { (k : ℕ) (set : LaneSet) (l : Lane) → IsSet set → Stands k set (seen self.old) w.now l → l.running ≡ self.old.commands.items
-            → Takes set w.now self.new.sq l result }
-        ensures none { IfNone result (self.new ≡ self.old) }
-        ensures only { self.new ≡ record self.old { sq = self.new.sq } }
+        requires { 2 ≤ length w.now.pages }
+        ensures { TakesEntry w.now self.old self.new result }
     {
         if self.commands.len() >= usize::from(self.cq.free()) {
             return None;
         }
-        self.sq.fetch(w.page(0))
+        let entry = self.sq.fetch(w.page(0))?;
+        Some(entry)
     }
 
     /// Posts the completions of the fetched commands, whose pieces ended so.
     pub(crate) fn finish_turn(&mut self, lane: LaneNo, results: &[PieceResult], w: &mut Window)
-        requires has_room { (burst : ℕ) × HasRoom burst self.old }
-        requires window { (w.old.lane ≡ lane) × (2 ≤ length w.old.pages) }
-        requires results { length results.now ≡ sum (map (λ f. f.2) self.old.fetched.items) }
-        requires told { length self.old.fetched.items ≡ length self.old.commands.items }
-
-        ensures posts { (s : Script) (l : Lane) → IsSet (set_of s.head lane) → self.old.fetched.items ≡ map (told_fetch s.head.shelf) self.old.commands.items
-            → Stands lane (set_of s.head lane) (seen self.old) w.old l → l.running ≡ worked s.head.shelf self.old.commands.items (outcomes_of results.now)
-            → Posts s lane l (seen self.new) w.new }
-        ensures between { (self.new.commands.items ≡ []) × (self.new.fetched.items ≡ []) }
-        ensures few { length self.new.posted.items ≤ length self.old.commands.items }
-        ensures memory { data_pages w.new ≡ data_pages w.old }
+        requires pages { 2 ≤ length w.old.pages }
+        requires results { length results.now ≡ sum (map (λ f. f.2) self.old.fetched) }
+        ensures step { PostsTurn lane results.now w.old w.new self.old self.new }
+        ensures posts { PostsLane lane results.now w.old w.new self.old self.new }
         ensures window { (w.new.lane ≡ w.old.lane) × (length w.new.pages ≡ length w.old.pages) }
-        ensures has_room { (burst : ℕ) → HasRoom burst self.old → HasRoom burst self.new }
+        ensures room { self.new.room ≡ self.old.room }
     {
         self.posted.clear();
+        let head = self.sq.state().head;
         let mut at = 0;
         'posts: for place in 0..self.commands.len() {
-            let end = at + self.pieces_at(place);
+            let end = at + pieces_at(self.fetched.as_slice(), place);
             let command = self.commands[place];
             let status = joined_status(&command, &results[at..end]);
-            self.post(lane, command.cid, status, w);
+            let entry = finish(command.cid, lane, status, head);
+            post(&entry, &mut self.cq, w);
+            self.posted.push_reserved((command.cid, status));
             at = end;
         }
         self.commands.clear();
         self.fetched.clear();
-    }
-
-    /// How many pieces the fetched command at a place has.
-    fn pieces_at(&self, place: usize) -> usize
-        requires { place < length self.now.fetched.items }
-        ensures value { (d : ℕ × StatusPair × ℕ) → result ≡ (slice_index_or self.now.fetched.items place d).2 }
-        ensures left { result + sum (map (λ f. f.2) (drop (place + 1) self.now.fetched.items)) ≡ sum (map (λ f. f.2) (drop place self.now.fetched.items)) }
-    {
-        self.fetched[place].2 as usize
-    }
-
-    /// Puts a command's completion into its place of the completion queue's page, where there is one.
-    fn post(&mut self, lane: LaneNo, cid: u16, status: Status, w: &mut Window)
-        requires pages { 2 ≤ length w.old.pages }
-        requires room { vec_len self.old.posted < vec_capacity self.old.posted }
-        ensures posted { (set : LaneSet) (l : Lane) (command : Command) (others : List Command) → IsSet set → Stands lane set (seen self.old) w.old l → l.running ≡ command ∷ others
-            → Stands lane set (seen self.new) w.new (with_completion set cid status others l) × (self.new.posted.items ≡ self.old.posted.items ++ (cid, status) ∷ []) }
-        ensures few { vec_len self.new.posted ≤ vec_len self.old.posted + 1 }
-        ensures capacity { vec_capacity self.new.posted ≡ vec_capacity self.old.posted }
-        ensures only { self.new ≡ record self.old { cq = self.new.cq; posted = self.new.posted } }
-        ensures memory { data_pages w.new ≡ data_pages w.old }
-        ensures window { (w.new.lane ≡ w.old.lane) × (length w.new.pages ≡ length w.old.pages) }
-    {
-        let place = self.cq.state().tail;
-        let head = self.sq.state().head;
-        let mut page = *w.page(1);
-        let entry = finish(cid, lane, status, head);
-        if let Ok(()) = self.cq.post(&mut page, &entry) {
-            keep_completion(place, &page, w);
-            self.posted.push_reserved((cid, status));
-        }
     }
 }
 
@@ -187,10 +192,20 @@ fn start(size: u16) -> RingState
     }
 }
 
+/// How many pieces the fetched command at a place has.
+fn pieces_at(fetched: &[(u16, Status, u32)], place: usize) -> usize
+    requires { place < length fetched.now }
+    ensures value { (d : ℕ × StatusPair × ℕ) → result ≡ (slice_index_or fetched.now place d).2 }
+    ensures left { result + sum (map (λ f. f.2) (drop (place + 1) fetched.now))
+        ≡ sum (map (λ f. f.2) (drop place fetched.now)) }
+{
+    fetched[place].2 as usize
+}
+
 /// Puts a fetched command's pieces into the plan, and answers how many it has.
 fn plan_command(command: &Command, lane: LaneNo, shelf: u32, plan: &mut Plan) -> u32
     requires shelf { 1 ≤ shelf }
-    requires fetched { (blocks : ℕ) × (pages : ℕ) × (blocks ≤ 131072) × IsFetched blocks pages command.now }
+    requires fetched { (blocks : ℕ) × (pages : ℕ) × (blocks < 2 ^ 32) × IsFetched blocks pages command.now }
     requires planned { (1 ≤ lane) × (lane ≤ length plan.old.lanes) }
     requires room { length (pieces_of plan.old lane) + 64 ≤ plan.old.room }
     ensures count { result ≡ pieces_left shelf command.now }
@@ -216,12 +231,13 @@ fn plan_job(job: &Job, lane: LaneNo, shelf: u32, plan: &mut Plan) -> u32
     requires shelf { 1 ≤ shelf }
     requires some { 1 ≤ job.now.span.count }
     requires few { job.now.span.count ≤ 64 }
-    requires numbered { job.now.span.first + job.now.span.count ≤ 131072 }
+    requires numbered { job.now.span.first + job.now.span.count ≤ 2 ^ 32 }
     requires planned { (1 ≤ lane) × (lane ≤ length plan.old.lanes) }
     requires room { length (pieces_of plan.old lane) + 64 ≤ plan.old.room }
     ensures count { result ≡ piece_count shelf job.now.span }
     ensures few { result ≤ 64 }
-    ensures planned { plan.new ≡ with_pieces lane (map (λ (i : ℕ). piece_of lane shelf i job.now) (range_with_len 0 result)) plan.old }
+    ensures planned { plan.new
+        ≡ with_pieces lane (map (λ (i : ℕ). piece_of lane shelf i job.now) (range_with_len 0 result)) plan.old }
 {
     let count = piece_count(job, shelf);
     for i in 0..count {
@@ -243,12 +259,29 @@ fn joined_status(command: &Command, results: &[PieceResult]) -> Status
     status
 }
 
+/// Puts a completion into its place of the completion queue's page. There is a free place.
+fn post(entry: &Cqe, cq: &mut CqRing, w: &mut Window)
+    requires pages { 2 ≤ length w.old.pages }
+    requires room { 1 ≤ free_places cq.old }
+    ensures moved { cq.new ≡ after_post cq.old }
+    ensures written { w.new
+        ≡ ctrl_written w.old 1 (16 * cq.old.ring.tail) (cqe_bytes (with_phase cq.old.phase entry.now)) }
+    ensures back { IsReadBack (with_phase cq.old.phase entry.now) }
+    ensures frees { free_places cq.old ≤ free_places cq.new + 1 }
+    ensures size { length w.new.pages ≡ length w.old.pages }
+{
+    let place = cq.state().tail;
+    let mut page = *w.page(1);
+    cq.post(&mut page, entry).unwrap();
+    keep_completion(place, &page, w);
+}
+
 /// Writes a completion's bytes of a copy of the completion queue's page back into the window.
 fn keep_completion(place: u16, page: &[u8; 4096], window: &mut Window)
     requires pages { 1 < length window.old.pages }
     requires there { place < 256 }
-    ensures pages { window.new.pages ≡ with_bytes window.old.pages 1 (16 * place) (cell 16 place page.now) }
-    ensures lane { window.new.lane ≡ window.old.lane }
+    ensures written { window.new ≡ ctrl_written window.old 1 (16 * place) (cell 16 place page.now) }
+    ensures size { length window.new.pages ≡ length window.old.pages }
 {
     let at = 16 * place;
     let from = usize::from(at);

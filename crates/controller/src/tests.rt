@@ -1,5 +1,4 @@
-ghost use Rattle.std.specs.Prelude.{◌≡◌, ◌≤◌, [], IfOk, IfSome, length, map, sum};
-ghost use Rattle.controller.specs.Pair.{pair_of};
+ghost use Rattle.std.specs.Prelude.{◌≡◌, ◌≤◌, IfOk, IfSome, length, map, sum};
 ghost use Rattle.controller.specs.declared.controller.Phase.TheVariants.{Running};
 
 use super::*;
@@ -43,7 +42,7 @@ fn entry(row: &(u8, u16, u32, u32)) -> Sqe {
 
 /// A controller of one pair, with eight places in each ring, that fetches three commands a turn.
 fn one_pair(alloc: Global) -> Result<Controller, Fail>
-    ensures { IfOk result (λ c. (length c.pairs ≡ 1) × (c.burst ≡ 3) × (c.phase ≡ Running) × ((pair_of c 1).commands ≡ [])) }
+    ensures { IfOk result (λ c. (length c.pairs ≡ 1) × (c.burst ≡ 3) × (c.phase ≡ Running)) }
 {
     let set = PairSet {
         sq: 8,
@@ -66,10 +65,10 @@ fn submit(
     e: &Sqe,
 ) -> bool
     requires lane { lane ≡ 1 }
-    requires ready { (length controller.old.pairs ≡ 1) × (controller.old.burst ≡ 3) × (controller.old.phase ≡ Running) × ((pair_of controller.old 1).commands ≡ []) }
-    requires window { (w.old.lane ≡ lane) × (2 ≤ length w.old.pages) × (length w.old.pages ≤ 258) }
-    ensures ready { (length controller.new.pairs ≡ 1) × (controller.new.burst ≡ 3) × (controller.new.phase ≡ Running) × ((pair_of controller.new 1).commands ≡ []) }
-    ensures window { (w.new.lane ≡ lane) × (2 ≤ length w.new.pages) × (length w.new.pages ≤ 258) }
+    requires ready { (length controller.old.pairs ≡ 1) × (controller.old.burst ≡ 3) × (controller.old.phase ≡ Running) }
+    requires window { (w.old.lane ≡ lane) × (2 ≤ length w.old.pages) }
+    ensures ready { (length controller.new.pairs ≡ 1) × (controller.new.burst ≡ 3) × (controller.new.phase ≡ Running) }
+    ensures window { (w.new.lane ≡ lane) × (2 ≤ length w.new.pages) }
 {
     let mut page = *w.page(0);
     let Ok(tail) = guest.submit(&mut page, e) else {
@@ -82,10 +81,10 @@ fn submit(
 /// The guest submits all entries, and rings the doorbell for each.
 fn submit_all(controller: &mut Controller, lane: LaneNo, w: &mut Window) -> bool
     requires lane { lane ≡ 1 }
-    requires ready { (length controller.old.pairs ≡ 1) × (controller.old.burst ≡ 3) × (controller.old.phase ≡ Running) × ((pair_of controller.old 1).commands ≡ []) }
-    requires window { (w.old.lane ≡ lane) × (2 ≤ length w.old.pages) × (length w.old.pages ≤ 258) }
-    ensures ready { (length controller.new.pairs ≡ 1) × (controller.new.burst ≡ 3) × (controller.new.phase ≡ Running) × ((pair_of controller.new 1).commands ≡ []) }
-    ensures window { (w.new.lane ≡ lane) × (2 ≤ length w.new.pages) × (length w.new.pages ≤ 258) }
+    requires ready { (length controller.old.pairs ≡ 1) × (controller.old.burst ≡ 3) × (controller.old.phase ≡ Running) }
+    requires window { (w.old.lane ≡ lane) × (2 ≤ length w.old.pages) }
+    ensures ready { (length controller.new.pairs ≡ 1) × (controller.new.burst ≡ 3) × (controller.new.phase ≡ Running) }
+    ensures window { (w.new.lane ≡ lane) × (2 ≤ length w.new.pages) }
 {
     let mut guest = GuestSq::new(8);
     for row in &ENTRIES {

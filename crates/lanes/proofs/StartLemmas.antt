@@ -3,10 +3,11 @@ use Rattle.std.proofs.Math.Nat.{zero-div, zero-mod}
 use Rattle.std.proofs.lemmas.List.{drop-replicate, get_or-replicate, length-replicate}
 use Rattle.nvm_model.specs.declared.script.LaneSet.{LaneSet}
 use Rattle.nvm_model.specs.Memory.{page_at, zero_page}
-use Rattle.nvm_model.specs.Queues.{IsOrdered, sq_of}
+use Rattle.nvm_ring.specs.Queues.{IsOrdered, sq_of}
 use Rattle.nvm_model.specs.Ring.{IsSqRing}
 use Rattle.nvm_model.specs.ScriptText.{IsSet}
 use Rattle.nvm_model.specs.World.{new_lane}
+use Rattle.nvm_model.proofs.CellLemmas.{ring_page-none}
 use Rattle.nvm_ring.proofs.RingLemmas.{cq_page_is-start, sq_ring-start}
 use Rattle.guest_ram.specs.Window.{WindowState}
 use Rattle.lanes.specs.Guest.{GuestState, Stands}
@@ -21,12 +22,15 @@ new_ordered {set} is = record {
   posted = refl;
   reaped = omega arith;
   in_flight = omega (arith, is);
-  told = 0;
-  told_is = sym (zero-mod set.sq);
-  told_few = omega arith;
+  told = λ n. 0;
+  tells = record {
+    none = refl;
+    heads = λ m c is. cc;
+    rising = λ m n low high. omega arith;
+    few = omega arith;
+    last = λ all. refl;
+  };
   untold = omega (arith, is);
-  heads = λ m c late is. cc;
-  last = λ e. sym (zero-mod set.sq);
 }
 
 -- a new guest, over a zeroed window, stands for it
@@ -42,8 +46,8 @@ new_stands {set} {guest} {window} is window_is waiting sq cq =
       number = ap (λ (w : WindowState). w.lane) window_is;
       window_is = record {
         size = ap length pages ∙ length-replicate (set.pages + 2) zero_page;
-        sq = first;
-        cq = second;
+        sq = first ∙ sym (ring_page-none 64 set.sq (omega (arith, is)));
+        cq = second ∙ sym (ring_page-none 16 set.cq (omega (arith, is)));
         memory = sym (ap (drop 2) pages ∙ drop-replicate 2 (set.pages + 2) zero_page ∙ ap (λ n. replicate n zero_page) both);
         entries = rw first entries;
         completions = rw second (cq_page_is-start set.cq (omega (arith, is)));

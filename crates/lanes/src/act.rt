@@ -4,14 +4,14 @@ ghost use Rattle.std.specs.List.{flat_map};
 ghost use Rattle.std.specs.Int.{w64, to_le_bytes};
 ghost use Rattle.std.specs.Option.{option_to_list};
 ghost use Rattle.nvm_values.specs.Op.{opcode_of};
-ghost use Rattle.nvm_values.specs.Sqe.{sqe_bytes};
+ghost use Rattle.nvm_values.specs.Sqe.{sqe_bytes, sqe_of};
 ghost use Rattle.nvm_model.specs.Memory.{page_address, filled_page, with_bytes};
 ghost use Rattle.nvm_model.specs.Ring.{cell, next_place};
 ghost use Rattle.nvm_model.specs.ScriptText.{IsAct};
 ghost use Rattle.nvm_model.specs.Event.{pages_after_act, submitted_by, address_of};
 ghost use Rattle.nvm_ring.specs.Moves.{after_submit};
 ghost use Rattle.guest_ram.specs.Window.{data_pages};
-ghost use Rattle.lanes.specs.Parts.{AddsNewest, IsSameButData};
+ghost use Rattle.lanes.specs.Parts.{IsSameButData};
 
 use crate::Act;
 use arrayvec::ArrayVec;
@@ -53,7 +53,9 @@ fn write_poke(page: u16, at: u16, bytes: &[u8; 32], used: u8, window: &mut Windo
 fn write_list(lane: LaneNo, page: u16, pages: &[u16; 8], used: u8, window: &mut Window)
     requires there { (page + 2 < length window.old.pages) × (length window.old.pages ≤ 258) }
     requires within { used ≤ 8 }
-    ensures pages { data_pages window.new ≡ with_bytes (data_pages window.old) page 0 (flat_map (λ p. to_le_bytes w64 (page_address lane p)) (take used pages.now)) }
+    ensures pages { data_pages window.new
+        ≡ with_bytes (data_pages window.old) page 0
+        (flat_map (λ p. to_le_bytes w64 (page_address lane p)) (take used pages.now)) }
     ensures window { IsSameButData window.old window.new }
 {
     let used = usize::from(used);
@@ -167,7 +169,7 @@ pub(crate) fn submit(entry: &Sqe, sq: &mut GuestSq, window: &mut Window) -> u16
     ensures moved { sq.new ≡ after_submit sq.old }
     ensures tail { result ≡ sq.new.tail }
     ensures pages { window.new.pages ≡ with_bytes window.old.pages 0 (64 * sq.old.tail) (sqe_bytes entry.now) }
-    ensures newest { AddsNewest sq.old window.old window.new entry.now }
+    ensures back { sqe_of (sqe_bytes entry.now) ≡ entry.now }
     ensures lane { window.new.lane ≡ window.old.lane }
 {
     let place = sq.state().tail;

@@ -1,11 +1,9 @@
 // The guest of a queue pair: it takes completions out of its queue, and does acts.
-ghost use Rattle.std.specs.Prelude.{◌≡◌, ◌≢◌, ◌⊎◌, ◌-◌, ◌<◌, ◌≤◌, ◌↔◌, [], IsTrue, length, true};
-ghost use Rattle.nvm_model.specs.Event.{MayDo, submitted_by};
-ghost use Rattle.nvm_model.specs.Ring.{next_place};
-ghost use Rattle.guest_ram.specs.Window.{WindowState};
+ghost use Rattle.std.specs.Prelude.{◌≡◌, ◌-◌, ◌<◌, ◌≤◌, ◌↔◌, IsTrue, length, true};
+ghost use Rattle.nvm_model.specs.Memory.{page_at};
 ghost use Rattle.nvm_model.specs.ScriptText.{IsAct, IsSet};
 ghost use Rattle.nvm_model.specs.World.{Lane};
-ghost use Rattle.lanes.specs.Guest.{Does, Reaps, Stands};
+ghost use Rattle.lanes.specs.Guest.{Acts, CanDo, Does, Reaps, Stands, TakesNext};
 
 use crate::{Act, PairSet, act};
 use guest_ram::Window;
@@ -64,12 +62,13 @@ impl Guest {
     }
 
     /// Takes the oldest completion that wasn't taken, and learns the submission queue's head from it; `None` exactly where
-    /// there is none. The completion queue's doorbell is to be rung with `cq_head` then.
+    /// the cell at the guest's place has the phase tag of the pass before (Base 2.1, Phase Tag). The completion queue's
+    /// doorbell is to be rung with `cq_head` then.
     pub fn reap(&mut self, w: &Window) -> Option<Cqe>
-        requires lane { w.now.lane ≡ self.old.lane }
-        requires pages { 2 ≤ length w.now.pages }
-        ensures reaps { (set : LaneSet) (lane : Lane) → IsSet set → Stands set self.old w.now lane → Reaps set self.old self.new w.now lane result }
-        ensures lane { self.new.lane ≡ self.old.lane }
+        requires { 2 ≤ length w.now.pages }
+        ensures takes { TakesNext (page_at w.now.pages 1) self.old self.new result }
+        ensures reaps { (set : LaneSet) (lane : Lane) → IsSet set → Stands set self.old w.now lane
+            → Reaps set self.old self.new w.now lane result }
     {
         let cqe = self.cq.reap(w.page(1))?;
         self.waiting = self.waiting.saturating_sub(1);
@@ -77,14 +76,14 @@ impl Guest {
         Some(cqe)
     }
 
-    /// Does an act, which is one of a script for a lane with this window.
+    /// Does an act, which is one of a script for a lane with as many data pages as this window has.
     pub fn act(&mut self, a: &Act, w: &mut Window) -> ActAnswer
-        requires lane { w.old.lane ≡ self.old.lane }
         requires pages { (2 < length w.old.pages) × (length w.old.pages ≤ 258) }
         requires act { IsAct (length w.old.pages - 2) a.now }
-        ensures does { (set : LaneSet) (lane : Lane) → IsSet set → Stands set self.old w.old lane → Does set a.now self.old self.new w.old w.new lane result }
-        ensures lane { self.new.lane ≡ self.old.lane }
-        ensures window { (w.new.lane ≡ w.old.lane) × (length w.new.pages ≡ length w.old.pages) }
+        ensures acts { Acts a.now self.old self.new w.old w.new result }
+        ensures size { length w.new.pages ≡ length w.old.pages }
+        ensures does { (set : LaneSet) (lane : Lane) → IsSet set → Stands set self.old w.old lane
+            → Does set a.now self.old self.new w.old w.new lane result }
     {
         if !self.may_do(a) {
             return ActAnswer::NotYet;
@@ -100,9 +99,7 @@ impl Guest {
 
     /// Whether the guest can do an act now.
     fn may_do(&self, a: &Act) -> bool
-        ensures may { (set : LaneSet) (window : WindowState) (lane : Lane) → IsSet set → Stands set self.now window lane → IsTrue result → MayDo set a.now lane }
-        ensures must { (set : LaneSet) (window : WindowState) (lane : Lane) → IsSet set → Stands set self.now window lane → MayDo set a.now lane → IsTrue result }
-        ensures room { IsTrue result → (submitted_by self.now.lane a.now ≡ []) ⊎ (next_place self.now.sq.size self.now.sq.tail ≢ self.now.sq.head) }
+        ensures { IsTrue result ↔ CanDo self.now a.now }
     {
         match a {
             Act::Submit { .. } | Act::Raw { .. } => !self.sq.is_full(),

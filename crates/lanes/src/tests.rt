@@ -86,7 +86,7 @@ fn completion() -> Cqe {
 /// Posts the completion, as the controller does.
 fn post(rt: &impl Abort, w: &mut Window)
     requires { length w.old.pages ≡ 4 }
-    ensures { (w.new.lane ≡ w.old.lane) × (length w.new.pages ≡ length w.old.pages) }
+    ensures { length w.new.pages ≡ 4 }
 {
     let start = RingState {
         size: 2,
@@ -101,8 +101,8 @@ fn post(rt: &impl Abort, w: &mut Window)
 
 /// What acts write into the data pages.
 fn writes_pages(rt: &impl Abort, guest: &mut Guest, w: &mut Window)
-    requires { (w.old.lane ≡ guest.old.lane) × (length w.old.pages ≡ 4) }
-    ensures { (w.new.lane ≡ guest.new.lane) × (length w.new.pages ≡ 4) }
+    requires { length w.old.pages ≡ 4 }
+    ensures { length w.new.pages ≡ 4 }
 {
     let fill = Act::Fill { page: 0, byte: 7 };
     assert_eq!(rt; guest.act(&fill, w), ActAnswer::Done);
@@ -119,8 +119,8 @@ fn writes_pages(rt: &impl Abort, guest: &mut Guest, w: &mut Window)
 
 /// One entry fits: the next one and a wait have to wait.
 fn submits(rt: &impl Abort, guest: &mut Guest, w: &mut Window)
-    requires { (w.old.lane ≡ guest.old.lane) × (length w.old.pages ≡ 4) }
-    ensures { (w.new.lane ≡ guest.new.lane) × (length w.new.pages ≡ 4) }
+    requires { length w.old.pages ≡ 4 }
+    ensures { length w.new.pages ≡ 4 }
 {
     assert_eq!(rt; guest.act(&Act::Wait, w), ActAnswer::Done);
     assert_eq!(rt; guest.act(&write(), w), ActAnswer::Rang { tail: 1 });
@@ -141,7 +141,7 @@ fn submits(rt: &impl Abort, guest: &mut Guest, w: &mut Window)
 
 /// The completion is reaped, and then the wait and the next entry go on.
 fn reaps(rt: &impl Abort, guest: &mut Guest, w: &mut Window)
-    requires { (w.old.lane ≡ guest.old.lane) × (length w.old.pages ≡ 4) }
+    requires { length w.old.pages ≡ 4 }
 {
     assert_eq!(rt; guest.reap(w), None);
     post(rt, w);

@@ -4,3 +4,4 @@ pub mod ChainLemmas
 pub mod PieceLemmas
 pub mod ShelfLemmas
 pub mod MediaLemmas
+pub mod LaneLemmas

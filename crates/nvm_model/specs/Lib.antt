@@ -11,6 +11,5 @@ pub mod History
 pub mod Text
 pub mod ScriptText
 pub mod Ring
-pub mod Queues
 pub mod Turn
 pub mod Stop

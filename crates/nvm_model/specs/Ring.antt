@@ -1,4 +1,5 @@
-use Rattle.std.specs.Prelude.{◌≡◌, ℕ, ◌+◌, ◌-◌, ◌*◌, ◌%◌, ◌<◌, ◌≤◌, Bool, false, List, [], ◌∷◌, Some, length, map, take, drop, replicate, slice_get}
+use Rattle.std.specs.Prelude.{◌≡◌, ℕ, ◌+◌, ◌-◌, ◌*◌, ◌%◌, ◌<◌, ◌≤◌, ◌==◌, Bool, false, List, [], ◌∷◌, ◌++◌, Option, Some, None, filter, length, map, take, drop, replicate, slice_get}
+use Rattle.std.specs.List.{enumerate_from, flat_map, last_or, range_with_len}
 use Rattle.nvm_values.specs.declared.sqe.Sqe.{Sqe}
 use Rattle.nvm_values.specs.Sqe.{sqe_bytes, sqe_of}
 use Rattle.nvm_values.specs.Cqe.{CqeFields, cqe_bytes, cqe_of}
@@ -6,7 +7,6 @@ use Rattle.nvm_model.specs.declared.command.Completion.{Completion}
 use Rattle.nvm_model.specs.declared.ring.RingState.{RingState}
 use Rattle.nvm_model.specs.declared.script.Head.{Head}
 use Rattle.nvm_model.specs.Event.{phase_of}
-use Rattle.nvm_model.specs.Memory.{written, zero_page}
 use Rattle.nvm_model.specs.World.{Lane, set_of}
 
 -- Rings of queue entries in a page of guest memory: a submission queue's entries have 64 bytes, a completion queue's 16.
@@ -68,14 +68,26 @@ pub record IsGuestCq (cq : GuestCqState) (page : List ℕ) (posted : List CqeFie
 
 -- The memory of a lane, byte for byte.
 
--- a page after entries were written one after another, the first with number m, each into the cell that is due to its number
-abbrev pub ring_page : ℕ → ℕ → ℕ → List (List ℕ) → List ℕ → List ℕ
-ring_page bytes size m [] page = page
-ring_page bytes size m (e ∷ entries) page = ring_page bytes size (m + 1) entries (written page (bytes * (m % size)) e)
+-- Of entries that were written one after another, those that are due to a place of a ring: entry m stands at place m
+-- modulo the ring's size.
+abbrev pub due_entries : ℕ → ℕ → List (List ℕ) → List (ℕ × List ℕ)
+due_entries size place entries = filter (λ (e : ℕ × List ℕ). e.0 % size == place) (enumerate_from 0 entries)
+
+abbrev pub entry_or_zeroes : ℕ → Option (ℕ × List ℕ) → List ℕ
+entry_or_zeroes bytes None = replicate bytes 0
+entry_or_zeroes bytes (Some e) = e.1
+
+-- a cell has the last entry that is due to its place, or zeroes
+abbrev pub ring_cell : ℕ → ℕ → List (List ℕ) → ℕ → List ℕ
+ring_cell bytes size entries place = entry_or_zeroes bytes (last_or None (due_entries size place entries))
+
+-- the page of a ring has its cells, and zeroes behind them
+unfoldable pub ring_page : ℕ → ℕ → List (List ℕ) → List ℕ
+ring_page bytes size entries = flat_map (ring_cell bytes size entries) (range_with_len 0 size) ++ replicate (4096 - bytes * size) 0
 
 -- the submission queue's page after all these entries were submitted
 abbrev pub sq_page : ℕ → List Sqe → List ℕ
-sq_page size submitted = ring_page 64 size 0 (map sqe_bytes submitted) zero_page
+sq_page size submitted = ring_page 64 size (map sqe_bytes submitted)
 
 -- the entry of a completion of a lane's queue pair
 abbrev pub completion_entry : ℕ → Completion → CqeFields
@@ -83,7 +95,7 @@ completion_entry lane c = record { dw0 = 0; dw1 = 0; sqhd = c.head; sqid = lane;
 
 -- the completion queue's page after all these completions were posted
 abbrev pub cq_page : ℕ → ℕ → List Completion → List ℕ
-cq_page lane size posted = ring_page 16 size 0 (map (λ (c : Completion). cqe_bytes (completion_entry lane c)) posted) zero_page
+cq_page lane size posted = ring_page 16 size (map (λ (c : Completion). cqe_bytes (completion_entry lane c)) posted)
 
 -- a lane's window pages: the submission queue, the completion queue, and the data pages
 abbrev pub lane_window : Head → ℕ → Lane → List (List ℕ)

@@ -1,8 +1,9 @@
-use Rattle.std.proofs.Common.{◌≡◌, ◌≢◌, ℕ, zero, suc, ◌+◌, ◌-◌, ◌*◌, ◌%◌, ◌<◌, ◌≤◌, ◌⊎◌, inl, inr, Bool, true, false, not, if◌then◌else◌, Some, None, List, [], ◌∷◌, ◌++◌, length, slice_get, replicate, refl, sym, ap, ◌∙◌, subst, arith, get_or}
+use Rattle.std.proofs.Common.{◌≡◌, ◌≢◌, ℕ, suc, ◌+◌, ◌-◌, ◌*◌, ◌%◌, ◌<◌, ◌≤◌, inl, inr, Bool, true, false, not, if◌then◌else◌, Some, None, List, [], ◌∷◌, ◌++◌, length, slice_get, replicate, refl, sym, ap, ◌∙◌, subst, arith, get_or}
 use Rattle.std.proofs.Math.Nat.{mod-add-mod, mod-lt, mod-eq_of_lt, add-mod_right}
 use Rattle.std.proofs.lemmas.Bool.{cases_lt, cases_eq, eq-eqb, ne_eqb, true≢false, false≢true}
 use Rattle.std.proofs.lemmas.List.{length_push}
-use Rattle.std.proofs.lemmas.Option.{slice_get_within, slice_get-get_or, slice_get_past, same_Some, none-some}
+use Rattle.std.proofs.lemmas.Option.{slice_get_within, slice_get-get_or, slice_get_past, none-some}
+use Rattle.mig_base.proofs.ListLemmas.{slice_get-push_cases}
 use Rattle.nvm_values.specs.declared.sqe.Sqe.{Sqe}
 use Rattle.nvm_values.specs.Sqe.{sqe_of}
 use Rattle.nvm_values.specs.Cqe.{CqeFields, cqe_of}
@@ -10,23 +11,12 @@ use Rattle.nvm_model.specs.declared.ring.RingState.{RingState}
 use Rattle.nvm_model.specs.Event.{phase_of}
 use Rattle.nvm_model.specs.Memory.{written, zero_page}
 use Rattle.nvm_model.specs.Ring.{cell, next_place, places_between, IsSqRing, IsCqPage, CqState, IsCqRing, GuestCqState, IsGuestCq}
-use Rattle.nvm_model.proofs.PlaceLemmas.{tail-from_count, places_between-tail_more, places_between-head_more, places_between-none, head-tail-from_none, mods-apart, places_between-mods, next_place-mod, phase_of-wrapped, phase_of-kept, phase_of-add, phase_of-first}
+use Rattle.nvm_model.proofs.PlaceLemmas.{places_between-cases, tail-from_count, places_between-tail_more, places_between-head_more, places_between-none, head-tail-from_none, mods-apart, places_between-mods, next_place-mod, phase_of-wrapped, phase_of-kept, phase_of-add, phase_of-first}
 use Rattle.nvm_model.proofs.CellLemmas.{cell-written, cell-written_other, cell-zero_page}
 use Rattle.nvm_ring.specs.Moves.{phase_at, after_fetch, after_submit, after_post, after_reap, with_phase}
 use Rattle.nvm_ring.specs.Stands.{Fetched, CountsFree, Reaped}
 
 -- What a ring stands for, from one call to the next.
-
--- an element of a list with one more at its end is that one, or stands where it stood
-pub slice_get-push_cases : {X : Type 0} (xs : List X) (y x : X) (i : ℕ) → slice_get (xs ++ y ∷ []) i ≡ Some x → (slice_get xs i ≡ Some x) ⊎ ((i ≡ length xs) × (y ≡ x))
-slice_get-push_cases [] y x zero h = inr (refl, same_Some y x h)
-slice_get-push_cases [] y x (suc i) h = inl h
-slice_get-push_cases (z ∷ xs) y x zero h = inl h
-slice_get-push_cases (z ∷ xs) y x (suc i) h =
-    elim (slice_get-push_cases xs y x i h) [
-      | inl g ↦ inl g
-      | inr g ↦ inr (ap suc g.0, g.1)
-    ]
 
 -- a ring whose head is its tail has no entry
 pub sq_ring-none : (ring : RingState) (page : List ℕ) (entries : List Sqe) → IsSqRing ring page entries → ring.head ≡ ring.tail → entries ≡ []
@@ -316,6 +306,10 @@ taken-in_order cq seen value page posted reaped now same past h l g e =
     let k = subst P same h in
     let at : value ≡ now % seen.ring.size = e ∙ ap (λ (q : CqState). now % q.ring.size) same in
     omega (arith, past, cq_ring-unreaped seen page posted reaped k, cq_ring-reaped_since seen page posted reaped now value k l g at, l, g)
+
+-- the head moves on towards the tail
+pub rung_frees : (n h t v : ℕ) → h < n → t < n → v < n → places_between n h v ≤ places_between n h t → places_between n v t ≤ places_between n h t
+rung_frees n h t v p q r l = omega (arith, l, places_between-cases n h t p q, places_between-cases n h v p r, places_between-cases n v t r q)
 
 pub posted-newest : (cq seen new : CqState) (page new_page bytes : List ℕ) (c : CqeFields) (posted : List CqeFields) (reaped : ℕ) → cq ≡ seen → seen.ring.size ≤ 256 → length page ≡ 4096 → length bytes ≡ 16 → cqe_of bytes ≡ with_phase seen.phase c
     → new_page ≡ written page (16 * seen.ring.tail) bytes → new ≡ after_post seen → IsCqRing cq page posted reaped → length posted + 1 < reaped + cq.ring.size

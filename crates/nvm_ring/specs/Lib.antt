@@ -1,3 +1,4 @@
 pub mod Places
 pub mod Moves
 pub mod Stands
+pub mod Queues

@@ -1,5 +1,5 @@
-use Rattle.std.specs.Prelude.{ℕ, Bool, not, ◌==◌, if◌then◌else◌}
-use Rattle.nvm_values.specs.Cqe.{CqeFields}
+use Rattle.std.specs.Prelude.{◌≡◌, ℕ, Bool, not, nat_lt, ◌==◌, if◌then◌else◌}
+use Rattle.nvm_values.specs.Cqe.{CqeFields, cqe_bytes, cqe_of}
 use Rattle.nvm_model.specs.declared.ring.RingState.{RingState}
 use Rattle.nvm_model.specs.Ring.{next_place, CqState, GuestCqState}
 
@@ -10,6 +10,10 @@ after_fetch ring = record ring { head = next_place ring.size ring.head }
 
 abbrev pub after_submit : RingState → RingState
 after_submit ring = record ring { tail = next_place ring.size ring.tail }
+
+-- a head that is told, where it's a place of the ring
+abbrev pub after_learn : ℕ → RingState → RingState
+after_learn head ring = if nat_lt head ring.size then record ring { head = head } else ring
 
 -- the phase tag at a place, by that at the place before
 abbrev pub phase_at : ℕ → Bool → Bool
@@ -24,3 +28,7 @@ after_reap cq = record { size = cq.size; head = next_place cq.size cq.head; phas
 -- an entry with another phase tag
 abbrev pub with_phase : Bool → CqeFields → CqeFields
 with_phase phase c = record c { phase = phase }
+
+-- the bytes of an entry are read as that entry again
+abbrev pub IsReadBack : CqeFields → Type 0
+IsReadBack c = cqe_of (cqe_bytes c) ≡ c

@@ -3,7 +3,7 @@ ghost use Rattle.nvm_values.specs.Cqe.{cqe_bytes};
 ghost use Rattle.nvm_model.specs.Memory.{written, zero_page};
 ghost use Rattle.nvm_model.specs.Ring.{next_place, places_between, IsCqRing};
 ghost use Rattle.nvm_ring.specs.Places.{IsRing};
-ghost use Rattle.nvm_ring.specs.Moves.{after_post, with_phase};
+ghost use Rattle.nvm_ring.specs.Moves.{IsReadBack, after_post, with_phase};
 ghost use Rattle.nvm_ring.specs.Stands.{CountsFree, PostsNewest, TakesReaped};
 
 use crate::place::{distance, place_after, turned, write_cell};
@@ -83,6 +83,7 @@ impl CqRing {
             (λ _. page.new
             ≡ written page.old (16 * self.old.ring.tail) (cqe_bytes (with_phase self.old.phase c.now)))
             (λ _. page.new ≡ page.old) }
+        ensures back { IfOk result (λ _. IsReadBack (with_phase self.old.phase c.now)) }
         ensures newest { PostsNewest self.old self.new page.old page.new c.now result }
     {
         let next = place_after(self.ring.size, self.ring.tail);
@@ -115,6 +116,8 @@ impl CqRing {
             (λ _. self.new ≡ record { ring = record self.old.ring { head = value }; phase = self.old.phase }) }
         ensures same { IfErr result (λ _. self.new ≡ self.old) }
         ensures told { IfErr result (λ e. e ≡ record { value = value }) }
+        ensures frees { places_between self.new.ring.size self.new.ring.head self.new.ring.tail
+            ≤ places_between self.old.ring.size self.old.ring.head self.old.ring.tail }
         ensures rung { TakesReaped self.old self.new value result }
     {
         let ring = self.ring;

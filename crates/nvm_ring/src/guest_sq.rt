@@ -1,9 +1,9 @@
 ghost use Rattle.std.specs.Prelude.{◌≡◌, ◌≢◌, ◌+◌, ◌*◌, ◌<◌, ◌≤◌, ◌↔◌, [], IsTrue, IfOk, IfErr, MatchResult};
-ghost use Rattle.nvm_values.specs.Sqe.{sqe_bytes};
+ghost use Rattle.nvm_values.specs.Sqe.{sqe_bytes, sqe_of};
 ghost use Rattle.nvm_model.specs.Memory.{written, zero_page};
 ghost use Rattle.nvm_model.specs.Ring.{next_place, IsSqRing};
 ghost use Rattle.nvm_ring.specs.Places.{IsRing};
-ghost use Rattle.nvm_ring.specs.Moves.{after_submit};
+ghost use Rattle.nvm_ring.specs.Moves.{after_learn, after_submit};
 ghost use Rattle.nvm_ring.specs.Stands.{SubmitsNewest};
 
 use crate::place::{place_after, write_cell};
@@ -80,6 +80,7 @@ impl GuestSq {
         ensures page { MatchResult result
             (λ _. page.new ≡ written page.old (64 * self.old.tail) (sqe_bytes e.now))
             (λ _. page.new ≡ page.old) }
+        ensures back { IfOk result (λ _. sqe_of (sqe_bytes e.now) ≡ e.now) }
         ensures newest { SubmitsNewest self.old page.old page.new e.now result }
     {
         let next = place_after(self.ring.size, self.ring.tail);
@@ -101,8 +102,7 @@ impl GuestSq {
         ensures exact { MatchResult result
             (λ _. head < self.old.size)
             (λ _. self.old.size ≤ head) }
-        ensures moved { IfOk result (λ _. self.new ≡ record self.old { head = head }) }
-        ensures same { IfErr result (λ _. self.new ≡ self.old) }
+        ensures learnt { self.new ≡ after_learn head self.old }
         ensures told { IfErr result (λ e. e ≡ record { value = head }) }
     {
         if head >= self.ring.size {

@@ -52,12 +52,6 @@ pub record IsSameButLane (i k : ℕ) (run : LaneRun) (window : WindowState) (old
   pub windows_are : windows ≡ set old_windows i window
   pub pairs : IsSameButPair k old.controller new.controller
 
--- an element that is there doesn't depend on what a look-up past the last gives
-pub any_default : {X : Type 0} (xs : List X) (i : ℕ) (d e : X) → i < length xs → get_or xs i d ≡ get_or xs i e
-any_default [] i d e there = absurd (omega arith)
-any_default (x ∷ xs) zero d e there = refl
-any_default (x ∷ xs) (suc i) d e there = any_default xs i d e (omega arith)
-
 -- the element at the place where one was put
 set_here : {X : Type 0} {ys : List X} (xs : List X) (i j : ℕ) (y d : X) → ys ≡ set xs i y → i < length xs → j ≡ i → get_or ys j d ≡ y
 set_here xs i j y d is there at = ap (λ zs. get_or zs j d) is ∙ ap (λ (n : ℕ). get_or (set xs i y) n d) at ∙ get_or-set_same xs i y d there

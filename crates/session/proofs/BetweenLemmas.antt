@@ -5,13 +5,15 @@ use Rattle.nvm_model.specs.declared.script.LaneSet.{LaneSet}
 use Rattle.nvm_model.specs.declared.script.Script.{Script}
 use Rattle.nvm_model.specs.History.{Complete, IsLaneComplete}
 use Rattle.nvm_model.specs.Memory.{page_at, zero_page}
-use Rattle.nvm_model.specs.Queues.{HasWindow}
+use Rattle.nvm_ring.specs.Queues.{HasWindow}
 use Rattle.nvm_model.specs.Ring.{cq_page, lane_window, lane_windows, places_between, sq_page}
 use Rattle.nvm_model.specs.ScriptText.{IsScript, IsSet}
 use Rattle.nvm_model.specs.World.{Lane, acts_of, new_lane, set_of}
 use Rattle.nvm_model.proofs.PlaceLemmas.{places_between-mods}
 use Rattle.guest_ram.specs.Ram.{windows_made}
 use Rattle.guest_ram.specs.Window.{WindowState, no_window}
+use Rattle.mig_base.proofs.ListLemmas.{empty_list}
+use Rattle.nvm_ring.proofs.QueueLemmas.{last_told, told_few}
 use Rattle.lanes.proofs.StartLemmas.{new_stands as guest_starts}
 use Rattle.lanes.specs.Guest.{GuestState}
 use Rattle.controller.specs.Pair.{ControllerState, PairState, new_pair, outcomes_of, pair_of, worked}
@@ -32,11 +34,6 @@ some_of (x ∷ xs) some = x
 some_run : {s : Script} {session : Session} → IsScript s → IsSession s session → LaneRun
 some_run {session = session} is sound = some_of session.lanes.items (omega (arith, sound.count, is.head.lanes))
 
--- no element, no list
-empty_list : {X : Type 0} (xs : List X) → length xs ≡ 0 → xs ≡ []
-empty_list [] none = refl
-empty_list (x ∷ xs) none = absurd (omega (arith, none))
-
 -- One lane.
 
 lane_rests : {s : Script} {k : ℕ} {run : LaneRun} {pair : PairState} {window : WindowState} {lane : Lane} → IsRunOf s k run → Stands s k run pair window lane → pair.commands ≡ [] → IsAtRest s k lane
@@ -46,7 +43,7 @@ lane_rests {s} {k} {run} {lane = lane} is stands between =
     let empty : length lane.running ≡ 0 = ap length none in
     let posted : length lane.posted ≡ lane.fetched = omega (arith, o.posted, empty) in
     let acts : length run.script.acts.items ≡ length (acts_of k s.acts) = ap length is.script.acts_are ∙ ap (λ (j : ℕ). length (acts_of j s.acts)) is.lane in
-    record { acts = omega (arith, stands.acts, is.few, acts); none = none; fetched = o.fetched; posted = posted; reaped = o.reaped; told = o.last posted }
+    record { acts = omega (arith, stands.acts, is.few, acts); none = none; fetched = o.fetched; posted = posted; reaped = o.reaped; told = last_told o posted }
 
 -- where nothing waits and the acts are done, the lane is complete
 lane_completes : {s : Script} {k : ℕ} {run : LaneRun} {pair : PairState} {window : WindowState} {lane : Lane} → IsRunOf s k run → Stands s k run pair window lane →
@@ -84,7 +81,7 @@ lane_work {s} {k} {run} {pair} {lane = lane} is set stands between =
     let none : length lane.running ≡ 0 = ap length rest.none in
     let empty : length pair.commands ≡ 0 = ap length between in
     let acts : length run.script.acts.items ≡ length (acts_of k s.acts) = ap length is.script.acts_are ∙ ap (λ (j : ℕ). length (acts_of j s.acts)) is.lane in
-    let few : length lane.submitted < lane.fetched + sq = omega (arith, o.untold, o.told_few) in
+    let few : length lane.submitted < lane.fetched + sq = omega (arith, o.untold, told_few o.tells lane.reaped o.reaped) in
     let places : places_between pair.sq.size pair.sq.head pair.sq.tail ≡ length lane.submitted - lane.fetched =
     ap (λ r. places_between r.size r.head r.tail) stands.ends.sq_is ∙ places_between-mods sq lane.fetched (length lane.submitted) o.fetched few in
     omega (arith, stands.acts, acts, places, none, empty, stands.guest_ends.waits)
@@ -241,7 +238,7 @@ start_at s k e is first few =
     get_or-map (λ (set : LaneSet). new_lane set.pages) sets (k - 1) none e (omega (arith, count, first, few)) ∙ ap (λ (set : LaneSet). new_lane set.pages) (pages_at s k none is first few)
 
 -- a new run with a new pair over a zeroed window stands for a new lane
-new_lane_stands : {s : Script} {k : ℕ} {run : LaneRun} {pair : PairState} {window : WindowState} → IsSet (set_of s.head k) → IsNewRun s k run → pair ≡ new_pair (set_of s.head k) →
+new_lane_stands : {s : Script} {k : ℕ} {run : LaneRun} {pair : PairState} {window : WindowState} → IsSet (set_of s.head k) → IsNewRun s k run → pair ≡ new_pair s.head.burst (set_of s.head k) →
     window ≡ record { lane = k; pages = replicate ((set_of s.head k).pages + 2) zero_page } → Stands s k run pair window (new_lane (set_of s.head k).pages)
 new_lane_stands {s} {k} {run} {pair} {window} set new pair_is window_is =
     let sizes = set_of s.head k in

@@ -1,11 +1,12 @@
-use Rattle.std.proofs.Common.{◌≡◌, ◌⊎◌, ℕ, zero, suc, ◌+◌, ◌-◌, ◌%◌, ◌<◌, ◌≤◌, Bool, true, false, not, inl, inr, ⊎_elim, List, [], ◌∷◌, ◌++◌, Option, Some, None, Result, Ok, Err, IfOk, IsOk, get_or, length, map, take, drop, sum, refl, sym, ap, subst, ◌∙◌, append_assoc, append-nil, get_or-set_same, arith}
-use Rattle.std.specs.List.{All, AllByRecursion, slice_get}
+use Rattle.std.proofs.Common.{◌≡◌, ◌⊎◌, ℕ, zero, suc, ◌+◌, ◌-◌, ◌%◌, ◌<◌, ◌≤◌, Bool, true, false, not, inl, inr, ⊎_elim, List, [], ◌∷◌, ◌++◌, Option, Some, None, Result, Ok, Err, IfOk, IsOk, get_or, length, map, take, drop, sum, refl, sym, ap, subst, ◌∙◌, append_assoc, append-nil, get_or-set_other, length-set, arith}
+use Rattle.std.specs.List.{All, slice_get}
 use Rattle.std.proofs.lemmas.Bool.{cases_lt, false≢true}
 use Rattle.std.proofs.lemmas.List.{length-append, length-map, map-append, take_all, take_more}
 use Rattle.std.proofs.lemmas.List.Elements.{All-head, All-tail}
 use Rattle.std.proofs.lemmas.List.Sums.{sum_by-cons}
 use Rattle.std.proofs.lemmas.List.FromFn.{length-map-range_with_len}
-use Rattle.std.proofs.lemmas.Option.{slice_get_within}
+use Rattle.std.proofs.lemmas.Option.{same_Some, slice_get_read, slice_get_within}
+use Rattle.mig_base.proofs.ListLemmas.{all_append}
 use Rattle.nvm_values.specs.Cqe.{CqeFields}
 use Rattle.nvm_model.specs.declared.command.Command.{Command}
 use Rattle.nvm_model.specs.declared.command.Completion.{Completion}
@@ -24,15 +25,18 @@ use Rattle.nvm_model.specs.declared.script.LaneSet.{LaneSet}
 use Rattle.nvm_model.specs.declared.script.Script.{Script}
 use Rattle.nvm_model.specs.Event.{DoesAct, LaneStep, MayDo, head_of_last, phase_of}
 use Rattle.nvm_model.specs.Memory.{page_at}
-use Rattle.nvm_model.specs.Queues.{HasGuestEnds, HasWindow, posted_entries}
-use Rattle.nvm_model.specs.Ring.{CqState, GuestCqState, IsCqPage, IsCqRing, completion_entry}
+use Rattle.nvm_ring.specs.Queues.{HasGuestEnds, HasWindow, posted_entries}
+use Rattle.nvm_model.specs.Ring.{CqState, GuestCqState, IsCqRing, completion_entry}
 use Rattle.nvm_model.specs.ScriptText.{IsSet}
 use Rattle.nvm_model.specs.Turn.{AreOf, IsIdle, IsKind, LaneEvents, NoneLegal, Plans, PostsAll}
 use Rattle.nvm_model.specs.Turn.Kind.{Act as ActKind, Fetch, Post}
 use Rattle.nvm_model.specs.World.{Lane, acts_of, set_of}
+use Rattle.nvm_model.proofs.LaneLemmas.{lane_events_more}
 use Rattle.nvm_ring.specs.Stands.{TakesReaped}
+use Rattle.nvm_ring.specs.declared.place.BadDoorbell.{BadDoorbell}
+use Rattle.nvm_ring.proofs.QueueLemmas.{cq_stands, head_of_earlier}
 use Rattle.guest_ram.specs.Window.{WindowState}
-use Rattle.controller.specs.Pair.{ControllerState, Fetches, IsFetched, PairState, Posts, after_pieces, command_pieces, fetch_line, lane_pieces, no_pair, outcomes_of, pair_of, post_line, told_fetch, with_pair, worked}
+use Rattle.controller.specs.Pair.{AtLane, ControllerState, Fetches, IsFetched, PairState, Posts, RingsCq, RingsSq, after_pieces, command_pieces, fetch_line, lane_pieces, no_pair, outcomes_of, pair_of, post_line, told_fetch, worked}
 use Rattle.controller.specs.Pair.{Stands as ControllerStands}
 use Rattle.lanes.specs.Guest.{GuestState, Reaped, Reaps, lane_after}
 use Rattle.session.specs.declared.lane_run.LaneRun.{LaneRun}
@@ -48,15 +52,23 @@ pair_same c = record { count = refl; burst = refl; phase = refl; others = λ i o
 pub pair_more : {k : ℕ} {a b c : ControllerState} → IsSameButPair k a b → IsSameButPair k b c → IsSameButPair k a c
 pair_more x y = record { count = y.count ∙ x.count; burst = y.burst ∙ x.burst; phase = y.phase ∙ x.phase; others = λ i other. y.others i other ∙ x.others i other }
 
--- what holds of all of two lists holds of both together
-are_more : {X : Type 0} (P : X → Type 0) (a b : List X) → AllByRecursion P a → AllByRecursion P b → AllByRecursion P (a ++ b)
-are_more P [] b first second = second
-are_more P (x ∷ a) b first second = (first.0, are_more P a b first.1 second)
+-- a step of the pair of lane k alone
+pub pair_stepped : {k : ℕ} {Step : PairState → PairState → Type 0} {a b : ControllerState} → AtLane k Step a b → IsSameButPair k a b
+pair_stepped {k} {a = a} {b} at = record {
+  count = ap (λ (c : ControllerState). length c.pairs) at.others ∙ length-set a.pairs (k - 1) (pair_of b k);
+  burst = ap (λ (c : ControllerState). c.burst) at.others;
+  phase = ap (λ (c : ControllerState). c.phase) at.others;
+  others = λ i other. ap (λ (c : ControllerState). get_or c.pairs i no_pair) at.others ∙ get_or-set_other a.pairs (k - 1) i (pair_of b k) no_pair other;
+}
 
--- events, and then further events
-events_more : (s : Script) (a b : List Line) (lane mid new : Lane) → LaneEvents s lane a mid → LaneEvents s mid b new → LaneEvents s lane (a ++ b) new
-events_more s [] b lane mid new first second = subst (λ (l : Lane). LaneEvents s l b new) first second
-events_more s (e ∷ a) b lane mid new first second = (first.0, first.1, events_more s a b first.0 mid new first.2 second)
+-- a doorbell leaves the commands, whatever was rung
+pub rung_commands : {value : ℕ} {old new : PairState} (result : Result (Unit {0}) BadDoorbell) → RingsCq value result old new → new.commands ≡ old.commands
+rung_commands (Ok a) rings = ap (λ (p : PairState). p.commands) rings.moved
+rung_commands (Err bad) rings = ap (λ (p : PairState). p.commands) rings.same.1
+
+pub rung_tail_commands : {value : ℕ} {old new : PairState} (result : Result (Unit {0}) BadDoorbell) → RingsSq value result old new → new.commands ≡ old.commands
+rung_tail_commands (Ok a) rings = ap (λ (p : PairState). p.commands) rings.moved
+rung_tail_commands (Err bad) rings = ap (λ (p : PairState). p.commands) rings.same.1
 
 -- as many events more as were added
 added_count : {X : Type 0} {new : List X} (old added : List X) → new ≡ old ++ added → length new ≡ length old + length added
@@ -68,21 +80,6 @@ as_ok M (Ok a) ok then = then
 as_ok M (Err e) ok then = absurd (false≢true ok)
 
 -- Reaping.
-
--- the controller's end of the completion ring stands for all completions that were posted
-ring_of : {set : LaneSet} {k : ℕ} {guest : GuestState} {pair : PairState} {window : WindowState} {lane : Lane} → guest.lane ≡ k → BothStand set guest pair window lane →
-    IsCqRing pair.cq (page_at window.pages 1) (posted_entries k lane.posted) lane.reaped
-ring_of {set} {k} {window = window} {lane} number stands =
-    let o = stands.guest_stands.ordered in
-    let count : length (posted_entries k lane.posted) ≡ length lane.posted = length-map lane.posted (completion_entry k) in
-    subst (λ (q : CqState). IsCqRing q (page_at window.pages 1) (posted_entries k lane.posted) lane.reaped) (sym stands.ends.cq_is) (record {
-      page_is = subst (λ (n : ℕ). IsCqPage set.cq (page_at window.pages 1) (posted_entries n lane.posted)) number stands.guest_stands.window_is.completions;
-      tail = ap (λ (n : ℕ). n % set.cq) (sym count);
-      head = refl;
-      phase = ap (phase_of set.cq) (sym count);
-      order = omega (arith, count, o.reaped);
-      few = omega (arith, count, o.posted, o.in_flight);
-    })
 
 -- nothing was reaped yet, or there is nothing to reap
 pub reaps_stay : {left : Bool} {s : Script} {k : ℕ} {l : Lane} {guest : GuestState} {pair : PairState} {window : WindowState} (events : List Line) →
@@ -113,22 +110,22 @@ head_rung : (cq is : CqState) (value head : ℕ) → cq ≡ is → value ≡ hea
 head_rung cq is value head cq_is value_is = ap (λ (h : ℕ). with_head h cq) value_is ∙ ap (with_head head) cq_is
 
 -- the oldest completion was reaped, and the doorbell rung
-pub reap_some : {E : Type 0} {s : Script} {k : ℕ} {l : Lane} {guest new : GuestState} (a b : ControllerState) {window : WindowState} (cqe : CqeFields) (value : ℕ) (result : Result (Unit {0}) E) (events : List Line) →
-    1 ≤ k → k ≤ length a.pairs → guest.lane ≡ k → value ≡ new.cq.head → BothStand (set_of s.head k) guest (pair_of a k) window l → Reaped (set_of s.head k) guest new window l cqe →
-    IfOk result (λ _. b ≡ with_pair k (record (pair_of a k) { cq = record { ring = record (pair_of a k).cq.ring { head = value }; phase = (pair_of a k).cq.phase } }) a) →
-    TakesReaped (pair_of a k).cq (pair_of b k).cq value result →
+pub reap_some : {s : Script} {k : ℕ} {l : Lane} {guest new : GuestState} (a b : ControllerState) {window : WindowState} (cqe : CqeFields) (value : ℕ) (result : Result (Unit {0}) BadDoorbell) (events : List Line) →
+    guest.lane ≡ k → value ≡ new.cq.head → BothStand (set_of s.head k) guest (pair_of a k) window l → Reaped (set_of s.head k) guest new window l cqe →
+    AtLane k (RingsCq value result) a b → TakesReaped (pair_of a k).cq (pair_of b k).cq value result →
     ReapsTo true s k l new (pair_of b k) window events (events ++ line.Reap k cqe.cid cqe.status cqe.sqhd cqe.phase ∷ [])
-reap_some {s = s} {k} {l} {guest} {new} a b {window} cqe value result events low high number value_is stands reaped moved takes =
+reap_some {s = s} {k} {l} {guest} {new} a b {window} cqe value result events number value_is stands reaped moved takes =
     let set = set_of s.head k in
     let pair = pair_of a k in
+    let g = stands.guest_stands in
     let count : length (posted_entries k l.posted) ≡ length l.posted = length-map l.posted (completion_entry k) in
     let there : l.reaped < length l.posted = slice_get_within l.posted l.reaped reaped.completion reaped.oldest in
     let size : pair.cq.ring.size ≡ set.cq = ap (λ (q : CqState). q.ring.size) stands.ends.cq_is in
     let head : value ≡ (l.reaped + 1) % set.cq = value_is ∙ ap (λ (q : GuestCqState). q.head) reaped.stands.ends.cq_is in
-    let rung = takes (page_at window.pages 1) (posted_entries k l.posted) l.reaped (l.reaped + 1) (ring_of number stands) (omega arith) (omega (arith, count, there)) (head ∙ ap (λ (n : ℕ). (l.reaped + 1) % n) (sym size)) in
-    let rung_pair : PairState = record pair { cq = record { ring = record pair.cq.ring { head = value }; phase = pair.cq.phase } } in
-    let after : b ≡ with_pair k rung_pair a = as_ok (b ≡ with_pair k rung_pair a) result rung.0 moved in
-    let pair_is : pair_of b k ≡ rung_pair = ap (λ (c : ControllerState). pair_of c k) after ∙ get_or-set_same a.pairs (k - 1) rung_pair no_pair (omega (arith, low, high)) in
+    let ring : IsCqRing pair.cq (page_at window.pages 1) (posted_entries k l.posted) l.reaped =
+    subst (λ (n : ℕ). IsCqRing pair.cq (page_at window.pages 1) (posted_entries n l.posted) l.reaped) number (cq_stands g.window_is g.ordered stands.ends) in
+    let rung = takes (page_at window.pages 1) (posted_entries k l.posted) l.reaped (l.reaped + 1) ring (omega arith) (omega (arith, count, there)) (head ∙ ap (λ (n : ℕ). (l.reaped + 1) % n) (sym size)) in
+    let pair_is : pair_of b k ≡ record pair { cq = with_head value pair.cq } = as_ok _ result rung.0 moved.step.moved in
     let rung_is = head_rung pair.cq _ value _ stands.ends.cq_is head in
     let told : slice_get l.posted l.reaped ≡ Some (record { cid = cqe.cid; status = cqe.status; head = cqe.sqhd; phase = cqe.phase }) =
     reaped.oldest ∙ ap (λ (e : CqeFields). Some (record { cid = e.cid; status = e.status; head = e.sqhd; phase = e.phase })) (sym reaped.cqe_is) in
@@ -157,8 +154,8 @@ reaps_more {s = s} {k} {l} {h = h} {q = q} {window} {a} first second =
       added = first.added ++ second.added;
       stands = subst (λ (n : ℕ). BothStand (set_of s.head k) h q window (record l { reaped = n })) count second.stands;
       events_are = second.events_are ∙ ap (λ (es : List Line). es ++ second.added) first.events_are ∙ append_assoc a first.added second.added;
-      are = are_more _ first.added second.added first.are second.are;
-      steps = subst (λ (n : ℕ). LaneEvents s l (first.added ++ second.added) (record l { reaped = n })) count (events_more s first.added second.added l _ _ first.steps second.steps);
+      are = all_append _ first.added second.added first.are second.are;
+      steps = subst (λ (n : ℕ). LaneEvents s l (first.added ++ second.added) (record l { reaped = n })) count (lane_events_more s first.added second.added l _ _ first.steps second.steps);
       all = λ none. sym count ∙ second.all none;
     }
 
@@ -178,20 +175,6 @@ none_legal : (s : Script) (k : ℕ) (lane : Lane) → ((n : ℕ) (new : Lane) �
 none_legal s k lane none (line.Act j n) blocks new_blocks new kind at step = none n new (subst (λ (i : ℕ). DoesAct s i n lane new) at step.1)
 none_legal s k lane none _ blocks new_blocks new kind at step = absurd kind
 
--- an option has one value
-same_some : {X : Type 0} (x y : X) → Some x ≡ Some y → x ≡ y
-same_some {X} x y same = ap from same
-  where
-    from : Option X → X
-    from None = x
-    from (Some z) = z
-
--- the element at a place of a list
-slice_get_at : {X : Type 0} (xs : List X) (i : ℕ) (x : X) → i < length xs → x ≡ get_or xs i x → slice_get xs i ≡ Some x
-slice_get_at [] i x there is = absurd (omega arith)
-slice_get_at (y ∷ xs) zero x there is = ap (λ z. Some z) (sym is)
-slice_get_at (y ∷ xs) (suc i) x there is = slice_get_at xs i x (omega arith) is
-
 -- the sizes of a run's lane
 pub run_set : {s : Script} {k : ℕ} {run : LaneRun} → IsRunOf s k run → IsSet (set_of s.head k)
 run_set {s} is = subst (λ (n : ℕ). IsSet (set_of s.head n)) is.lane (subst IsSet is.script.set_is is.script.set_fits)
@@ -200,7 +183,7 @@ run_set {s} is = subst (λ (n : ℕ). IsSet (set_of s.head n)) is.lane (subst Is
 pub next_due : (s : Script) (k : ℕ) (run : LaneRun) (act : Act) → IsRunOf s k run → run.acts_done < length run.script.acts.items → act ≡ get_or run.script.acts.items run.acts_done act → slice_get (acts_of k s.acts) run.acts_done ≡ Some act
 next_due s k run act is there act_is =
     subst (λ (n : ℕ). slice_get (acts_of n s.acts) run.acts_done ≡ Some act) is.lane
-    (subst (λ (xs : List Act). slice_get xs run.acts_done ≡ Some act) is.script.acts_are (slice_get_at run.script.acts.items run.acts_done act there act_is))
+    (subst (λ (xs : List Act). slice_get xs run.acts_done ≡ Some act) is.script.acts_are (slice_get_read run.script.acts.items (length run.script.acts.items) run.acts_done act refl there act_is))
 
 -- no act was done
 acts_stay : {on : Bool} {s : Script} {k : ℕ} {l : Lane} {guest : GuestState} {pair : PairState} {window : WindowState} {done : ℕ} (events : List Line) →
@@ -237,14 +220,14 @@ pub act_refused : {s : Script} {k : ℕ} {l : Lane} {guest : GuestState} {pair :
     (MayDo (set_of s.head k) act l → ⊥) → BothStand (set_of s.head k) guest pair window l → ActsTo false s k l guest done pair window events events
 act_refused {s} {k} {l} act events due acts never stands =
     acts_stay events stands acts (inr (none_legal s k l (λ n new does.
-    let same : does.act ≡ act = same_some does.act act (sym does.due ∙ ap (slice_get (acts_of k s.acts)) acts ∙ due) in
+    let same : does.act ≡ act = same_Some does.act act (sym does.due ∙ ap (slice_get (acts_of k s.acts)) acts ∙ due) in
     never (subst (λ (x : Act). MayDo (set_of s.head k) x l) same does.may))))
 
 -- whether acts go on behind an act
 act_stops : (idle : Bool) (s : Script) (k : ℕ) (l new : Lane) (act : Act) → slice_get (acts_of k s.acts) l.acts ≡ Some act → new.acts ≡ l.acts + 1 → (idle ≡ true → act ≡ Idle) → (idle ≡ false → act ≡ Idle → ⊥) → Stops (not idle) s k l new
 act_stops false s k l new act due next is_idle other = λ more is.
     let here : new.acts - 1 ≡ l.acts = omega (arith, next) in
-    other refl (same_some act Idle (sym due ∙ sym (ap (slice_get (acts_of k s.acts)) here) ∙ is))
+    other refl (same_Some act Idle (sym due ∙ sym (ap (slice_get (acts_of k s.acts)) here) ∙ is))
 act_stops true s k l new act due next is_idle other =
     let here : new.acts - 1 ≡ l.acts = omega (arith, next) in
     inl (omega (arith, next), ap (slice_get (acts_of k s.acts)) here ∙ due ∙ ap (λ (x : Act). Some x) (is_idle refl))
@@ -307,8 +290,8 @@ acts_more {on} {s} {k} {l} {a = a} first second =
       stands = second.stands;
       acts = second.acts;
       events_are = second.events_are ∙ ap (λ (es : List Line). es ++ second.added) first.events_are ∙ append_assoc a first.added second.added;
-      are = are_more _ first.added second.added first.are second.are;
-      steps = events_more s first.added second.added l first.new second.new first.steps second.steps;
+      are = all_append _ first.added second.added first.are second.are;
+      steps = lane_events_more s first.added second.added l first.new second.new first.steps second.steps;
       forward = omega (arith, parts, first.forward, second.forward);
       none_behind = behind_more s k l first.new second.new first.none_behind first.stops second.none_behind;
       stops = stops_more on s k l first.new second.new (omega (arith, first.forward)) (omega (arith, second.forward)) first.stops second.stops;
@@ -480,17 +463,6 @@ plans_lane {s} {k} {l} {run} {r = r} {a = a} {c = c} reaps acts fetches number n
     }
 
 -- One lane's posts.
-
--- an element before one that was appended
-slice_get_before : {X : Type 0} (xs : List X) (x : X) (n : ℕ) → n < length xs → slice_get (xs ++ x ∷ []) n ≡ slice_get xs n
-slice_get_before [] x n some = absurd (omega arith)
-slice_get_before (y ∷ xs) x zero some = refl
-slice_get_before (y ∷ xs) x (suc n) some = slice_get_before xs x n (omega arith)
-
--- a completion that is posted later doesn't change what the guest was told
-head_of_earlier : (posted : List Completion) (c : Completion) (n : ℕ) → n ≤ length posted → head_of_last (posted ++ c ∷ []) n ≡ head_of_last posted n
-head_of_earlier posted c zero few = refl
-head_of_earlier posted c (suc n) few = rw (slice_get_before posted c n (omega arith))
 
 -- what the guest knows of two lanes is the same
 record IsSameToGuest (old new : Lane) : Type 0 where

@@ -2,9 +2,8 @@ use Rattle.std.proofs.Common.{◌≡◌, ℕ, zero, suc, ◌+◌, ◌-◌, ◌*�
 use Rattle.std.proofs.lemmas.Bool.{cases_eq}
 use Rattle.std.proofs.lemmas.List.{length-map, length-set, map-append, get_or-map, get_or-take, get_or-set_same, get_or-set_other, ext_get_or}
 use Rattle.std.proofs.lemmas.List.Elements.{All-head, All-tail}
-use Rattle.std.proofs.lemmas.List.Sums.{sum_by-cons}
-use Rattle.std.specs.List.{AllByRecursion}
 use Rattle.mig_base.specs.Count.{NeverFall, RiseBy}
+use Rattle.mig_base.proofs.ListLemmas.{none_of_sum}
 use Rattle.nvm_values.specs.declared.op.Op.{Op}
 use Rattle.nvm_values.specs.declared.op.Op.TheVariants.{Flush, Write, Read, Compare, WriteZeroes, Verify}
 use Rattle.nvm_model.specs.declared.command.Command.{Command}
@@ -19,7 +18,7 @@ use Rattle.nvm_model.specs.Event.{DoesPiece, One}
 use Rattle.nvm_model.specs.History.{is_faulted}
 use Rattle.nvm_model.specs.Memory.{page_at}
 use Rattle.nvm_model.specs.Piece.{after_piece, digest_after, done_blocks, pieces_left}
-use Rattle.nvm_model.specs.Queues.{HasGuestEnds, HasWindow, IsOrdered, posted_entries, sq_of}
+use Rattle.nvm_ring.specs.Queues.{HasGuestEnds, HasWindow, IsOrdered, posted_entries, sq_of}
 use Rattle.nvm_model.specs.Ring.{IsCqPage, IsSqRing}
 use Rattle.nvm_model.specs.Shelf.{HasEffect, digest_bytes, joined}
 use Rattle.nvm_model.specs.Turn.{left_in}
@@ -124,11 +123,8 @@ order_stays set lane pages running same is = record {
   reaped = is.reaped;
   in_flight = is.in_flight;
   told = is.told;
-  told_is = is.told_is;
-  told_few = is.told_few;
+  tells = is.tells;
   untold = is.untold;
-  heads = is.heads;
-  last = is.last;
 }
 
 -- the lane that a run stands for after its next piece
@@ -306,18 +302,11 @@ lefts_are {s} {session} {windows} {lanes} {left} d planned are is =
     let at : slice_index_or (map f lanes) i 0 ≡ f (slice_index_or lanes i (new_lane 0)) = get_or-map f lanes i (new_lane 0) 0 (omega (arith, low, as_many)) in
     omega (arith, own, count, at))
 
--- numbers with no sum are none
-none_left : {X : Type 0} (f : X → ℕ) (xs : List X) → sum (map f xs) ≡ 0 → AllByRecursion (λ (x : X). f x ≡ 0) xs
-none_left f [] none = tt
-none_left f (x ∷ xs) none =
-    let first = sum_by-cons (λ (n : ℕ). n) (f x) (map f xs) in
-    (omega (arith, first, none), none_left f xs (omega (arith, first, none)))
-
 -- where nothing is left of any lane, no command has a piece left
 lanes_finished : (s : Script) (lanes : List Lane) → All (λ (n : ℕ). n ≡ 0) (map (left_in s.head.shelf) lanes) → AreFinished s lanes
 lanes_finished s [] none = tt
 lanes_finished s (lane ∷ lanes) none = (
-  none_left (pieces_left s.head.shelf) lane.running (All-head (λ (n : ℕ). n ≡ 0) (left_in s.head.shelf lane) (map (left_in s.head.shelf) lanes) none),
+  none_of_sum (pieces_left s.head.shelf) lane.running (All-head (λ (n : ℕ). n ≡ 0) (left_in s.head.shelf lane) (map (left_in s.head.shelf) lanes) none),
   lanes_finished s lanes (All-tail (λ (n : ℕ). n ≡ 0) (left_in s.head.shelf lane) (map (left_in s.head.shelf) lanes) none),
 )
 

@@ -4,7 +4,7 @@ use Rattle.nvm_model.specs.declared.script.Act.{Act}
 use Rattle.nvm_model.specs.declared.script.LaneSet.{LaneSet}
 use Rattle.nvm_model.specs.declared.script.Script.{Script}
 use Rattle.nvm_model.specs.Event.{MayDo}
-use Rattle.nvm_model.specs.Queues.{HasEnds}
+use Rattle.nvm_ring.specs.Queues.{HasEnds}
 use Rattle.nvm_model.specs.Turn.{ActsOn, AreOf, IsIdle, LaneEvents, NoneLegal}
 use Rattle.nvm_model.specs.Turn.Kind.{Reap, Act as ActKind}
 use Rattle.nvm_model.specs.World.{Lane, set_of}

@@ -5,7 +5,7 @@ use Rattle.nvm_model.specs.declared.line.Line.{Line}
 use Rattle.nvm_model.specs.declared.script.Script.{Script}
 use Rattle.nvm_model.specs.History.{Steps, faults_shown}
 use Rattle.nvm_model.specs.Piece.{pieces_left}
-use Rattle.nvm_model.specs.Queues.{HasEnds, HasGuestEnds, HasWindow, IsOrdered}
+use Rattle.nvm_ring.specs.Queues.{HasEnds, HasGuestEnds, HasWindow, IsOrdered}
 use Rattle.nvm_model.specs.ScriptText.{IsSet, IsAct}
 use Rattle.nvm_model.specs.Turn.{InLanes, InOrder, IsKind, pieces_in, word_state}
 use Rattle.nvm_model.specs.Turn.Kind.{Piece}
@@ -79,7 +79,7 @@ pub record IsNewRun (s : Script) (k : ℕ) (run : LaneRun) : Type 0 where
 -- a session of which nothing was done
 pub record IsNewSession (s : Script) (session : Session) : Type 0 where
   pub runs : (k : ℕ) (d : LaneRun) → 1 ≤ k → k ≤ s.head.lanes → IsNewRun s k (slice_index_or session.lanes.items (k - 1) d)
-  pub pairs : (k : ℕ) → 1 ≤ k → k ≤ s.head.lanes → pair_of session.controller k ≡ new_pair (set_of s.head k)
+  pub pairs : (k : ℕ) → 1 ≤ k → k ≤ s.head.lanes → pair_of session.controller k ≡ new_pair s.head.burst (set_of s.head k)
   pub words : session.order.words ≡ word_state s.head.mix 0
 
 -- the lanes at the start

@@ -7,6 +7,7 @@ use Rattle.std.proofs.lemmas.Grind.{flat_map-append}
 use Rattle.std.proofs.lemmas.List.{length-append, length-set, map-append}
 use Rattle.std.proofs.lemmas.List.Sums.{sum_by-append}
 use Rattle.std.proofs.lemmas.Option.{slice_get_cases, slice_get_within}
+use Rattle.mig_base.proofs.ListLemmas.{slice_get_last}
 use Rattle.nvm_values.specs.declared.sqe.Sqe.{Sqe}
 use Rattle.nvm_values.specs.Status.{StatusPair}
 use Rattle.nvm_model.specs.declared.command.Command.{Command}
@@ -109,11 +110,6 @@ fetch_falls s k cid status pieces lane new fit h =
       fit = record { acts = fit.acts; fetched = omega (arith, due); posted = omega (arith, more, fit.posted); reaped = fit.reaped; told = λ none. absurd (omega (arith, more, none)) };
       less = omega (arith, due, more);
     })
-
--- the element that was put last
-slice_get_last : {X : Type 0} (xs : List X) (x : X) → slice_get (xs ++ x ∷ []) (length xs) ≡ Some x
-slice_get_last [] x = refl
-slice_get_last (y ∷ xs) x = slice_get_last xs x
 
 -- the completion that was posted last tells the head
 told_last : (posted : List Completion) (c : Completion) → head_of_last (posted ++ c ∷ []) (length posted + 1) ≡ c.head

@@ -4,7 +4,7 @@ use Rattle.std.proofs.lemmas.Bool.{cases_eq}
 use Rattle.std.proofs.lemmas.List.Elements.{All-nil, All-cons}
 use Rattle.std.proofs.lemmas.List.Sums.{sum_by-cons, sum_by-set, sum-map}
 use Rattle.std.proofs.lemmas.Option.{same_Some, slice_get_within, get_or_from_slice_get}
-use Rattle.mig_base.proofs.ListLemmas.{all_at}
+use Rattle.mig_base.proofs.ListLemmas.{all_at, none_of_sum}
 use Rattle.nvm_model.specs.declared.command.Command.{Command}
 use Rattle.nvm_model.specs.declared.command.Outcome.{Outcome}
 use Rattle.nvm_model.specs.declared.command.Work.{Work}
@@ -31,13 +31,6 @@ all_set P (x ∷ xs) (suc i) y all here = (all.0, all_set P xs i y all.1 here)
 -- what holds of each element holds of the one at a place
 all_there : {X : Type 0} (P : X → Type 0) (xs : List X) (i : ℕ) (x : X) → AllByRecursion P xs → slice_get xs i ≡ Some x → P x
 all_there P xs i x all there = subst P (get_or_from_slice_get xs i x x there) (all_at P xs i x all (slice_get_within xs i x there))
-
--- numbers with no sum are none
-none_left : {X : Type 0} (f : X → ℕ) (xs : List X) → sum (map f xs) ≡ 0 → AllByRecursion (λ (x : X). f x ≡ 0) xs
-none_left f [] none = tt
-none_left f (x ∷ xs) none =
-    let first = sum_by-cons (λ (n : ℕ). n) (f x) (map f xs) in
-    (omega (arith, first, none), none_left f xs (omega (arith, first, none)))
 
 -- a sum falls by one with one of its numbers
 sum_falls : {X : Type 0} (f : X → ℕ) (xs : List X) (i : ℕ) (x y : X) → slice_get xs i ≡ Some x → f x ≡ f y + 1 → sum (map f xs) ≡ sum (map f (slice_set xs i y)) + 1
@@ -222,7 +215,7 @@ works_end : (s : Script) (n : ℕ) (w : World) → sum (lefts s w) ≡ 0 → Has
 works_end s n w none = record {
   events = [];
   v = w;
-  working = record { are = tt; steps = refl; all = each w.lanes (none_left (left_in s.head.shelf) w.lanes none) };
+  working = record { are = tt; steps = refl; all = each w.lanes (none_of_sum (left_in s.head.shelf) w.lanes none) };
   order = tt;
   calm = refl;
 }
@@ -230,7 +223,7 @@ works_end s n w none = record {
     each : (lanes : List Lane) → AllByRecursion (λ (lane : Lane). left_in s.head.shelf lane ≡ 0) lanes →
         AllByRecursion (λ (lane : Lane). AllByRecursion (λ (c : Command). pieces_left s.head.shelf c ≡ 0) lane.running) lanes
     each [] none = tt
-    each (lane ∷ lanes) none = (none_left (pieces_left s.head.shelf) lane.running none.0, each lanes none.1)
+    each (lane ∷ lanes) none = (none_of_sum (pieces_left s.head.shelf) lane.running none.0, each lanes none.1)
 
 -- the world after a piece of lane k
 abbrev after_work : {s : Script} (w : World) (k : ℕ) {lane : Lane} → HasPiece s w.blocks lane → World

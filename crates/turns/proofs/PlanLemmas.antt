@@ -3,6 +3,7 @@ use Rattle.std.specs.List.{AllByRecursion}
 use Rattle.std.proofs.lemmas.Bool.{cases_lt, cases_eq}
 use Rattle.std.proofs.lemmas.List.Sums.{sum_by-append}
 use Rattle.std.proofs.lemmas.Option.{slice_get_cases}
+use Rattle.mig_base.proofs.ListLemmas.{all_append}
 use Rattle.nvm_values.specs.declared.sqe.Sqe.{Sqe}
 use Rattle.nvm_model.specs.declared.command.Command.{Command}
 use Rattle.nvm_model.specs.declared.command.Completion.{Completion}
@@ -40,11 +41,6 @@ one_value is other = cc
 -- an option without a value has none
 no_value : {X : Type 0} {o : Option X} {x : X} → o ≡ None → o ≡ Some x → ⊥
 no_value none some = cc
-
--- what holds of each element and of one more
-all_more : {X : Type 0} (P : X → Type 0) (xs : List X) (x : X) → AllByRecursion P xs → P x → AllByRecursion P (xs ++ x ∷ [])
-all_more P [] x all here = (here, tt)
-all_more P (y ∷ xs) x all here = (all.0, all_more P xs x all.1 here)
 
 -- events that show no fault, and then more of them
 pub calm_more : (es fs : List Line) → faults_shown es ≡ 0 → faults_shown fs ≡ 0 → faults_shown (es ++ fs) ≡ 0
@@ -247,7 +243,7 @@ has_fetches : (s : Script) (k m : ℕ) (lane : Lane) → AllByRecursion HasNewWo
 has_fetches s k zero lane new_work = fetches_end s k zero lane new_work (inl refl)
 has_fetches s k (suc m) lane new_work = ⊎_elim (λ due.
     ⊎_elim (λ room. then_fetch s k m lane due.0 due.2 room (has_fetches s k m (after_fetch s k due.0 lane)
-    (all_more HasNewWork lane.running (checked_command s.head.blocks k lane.pages lane.running due.0) new_work (checked_is_new s.head.blocks k lane.pages lane.running due.0))))
+    (all_append HasNewWork lane.running (checked_command s.head.blocks k lane.pages lane.running due.0 ∷ []) new_work (checked_is_new s.head.blocks k lane.pages lane.running due.0, tt))))
     (λ full. fetches_end s k (suc m) lane new_work (inr (no_fetch s k lane (λ e oldest room. full room))))
     (below_or_not (length lane.running + (length lane.posted - lane.reaped)) ((set_of s.head k).cq - 1)))
     (λ past. fetches_end s k (suc m) lane new_work (inr (no_fetch s k lane (λ e oldest room. no_value past.1 oldest))))

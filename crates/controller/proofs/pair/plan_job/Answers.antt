@@ -4,7 +4,7 @@ use Rattle.std.proofs.lemmas.List.FromFn.{length-map-range_with_len}
 use Rattle.nvm_model.specs.declared.piece.Piece.{Piece}
 use Rattle.hall.specs.Plan.{PlanState, pieces_of, with_piece}
 use Rattle.nvm_cmd.specs.Cut.{piece_of}
-use Rattle.controller.specs.Parts.{with_pieces}
+use Rattle.controller.specs.Pair.{with_pieces}
 use Rattle.controller.proofs.PlanLemmas.{count_with, few_pieces, made_more, with_more}
 use Rattle.controller.proofs.pair.plan_job.Goals as goal
 

@@ -1,7 +1,7 @@
 use Rattle.std.proofs.Common.{◌≡◌, ℕ, map}
 use Rattle.std.specs.List.{range_with_len}
 use Rattle.nvm_cmd.specs.Cut.{piece_of}
-use Rattle.controller.specs.Parts.{with_pieces}
+use Rattle.controller.specs.Pair.{with_pieces}
 use Rattle.controller.proofs.pair.plan_job.Given as goal
 
 abbrev pub invariant-loop-i : goal.invariant-loop-i

@@ -1,10 +1,9 @@
-use Rattle.std.proofs.Common.{◌≡◌, ◌≤◌, [], length}
-use Rattle.controller.specs.Pair.{pair_of}
+use Rattle.std.proofs.Common.{◌≡◌, ◌≤◌, length}
 use Rattle.controller.specs.declared.controller.Phase.TheVariants.{Running}
 use Rattle.controller.proofs.tests.submit_all.Given as goal
 
 abbrev pub invariant-loop-row : goal.invariant-loop-row
 invariant-loop-row l = record {
-  ready : (length l.controller.pairs ≡ 1) × (l.controller.burst ≡ 3) × (l.controller.phase ≡ Running) × ((pair_of l.controller 1).commands ≡ []);
-  window : (l.w.lane ≡ l.lane) × (2 ≤ length l.w.pages) × (length l.w.pages ≤ 258);
+  ready : (length l.controller.pairs ≡ 1) × (l.controller.burst ≡ 3) × (l.controller.phase ≡ Running);
+  window : (l.w.lane ≡ l.lane) × (2 ≤ length l.w.pages);
 }

@@ -1,4 +1,5 @@
 use Rattle.std.proofs.Common.{◌≡◌, ◌∙◌, ◌+◌, ◌-◌, ◌≤◌, ◌<◌, ℕ, [], set, length, length-set, ap, sym, refl, subst, arith, rules}
+use Rattle.std.proofs.lemmas.List.{get_or_default}
 use Rattle.std.specs.Vec.{with_item}
 use Rattle.guest_ram.specs.Window.{no_window}
 use Rattle.hall.specs.Plan.{PlanState}
@@ -6,7 +7,7 @@ use Rattle.controller.specs.Pair.{PairState, lane_pieces, pair_of}
 use Rattle.session.specs.declared.lane_run.LaneRun.{LaneRun}
 use Rattle.session.specs.declared.session.Session.{Session}
 use Rattle.session.specs.Lanes.{IsRunOf}
-use Rattle.session.proofs.AllLanesLemmas.{IsSameButLane, all_led, any_default, each_run, each_window, led_more, none_yet, other_pair, other_pieces, planned_more, run_at, run_here, session_more, window_at}
+use Rattle.session.proofs.AllLanesLemmas.{IsSameButLane, all_led, each_run, each_window, led_more, none_yet, other_pair, other_pieces, planned_more, run_at, run_here, session_more, window_at}
 use Rattle.session.proofs.plan.plan_all.Goals as goal
 
 pub loop-at-init : goal.loop-at-init
@@ -34,7 +35,7 @@ pub plan_lane-requires-clause-window : goal.plan_lane-requires-clause-window
 plan_lane-requires-clause-window c =
     let is = run_at c.loop-at.at c.index_mut.result.now c.loop-at.invariant.session (omega arith) c.index_mut.ensures.value in
     let windows = c.loop-at.invariant.windows in
-    window_at c.loop-at.at c.index_mut.result.now.script.lane _ windows (omega arith) is.lane (any_default c.loop-at.windows c.loop-at.at c.index-windows-at.result no_window (omega (arith, windows.count)))
+    window_at c.loop-at.at c.index_mut.result.now.script.lane _ windows (omega arith) is.lane (get_or_default c.loop-at.windows c.loop-at.at c.index-windows-at.result no_window (omega (arith, windows.count)))
 
 pub plan_lane-requires-clause-there : goal.plan_lane-requires-clause-there
 plan_lane-requires-clause-there c =
@@ -72,7 +73,7 @@ loop-at-preserved c =
     record { at = at; lanes = refl; windows_are = refl; pairs = c.plan_lane.ensures.others } in
     let pieces = lane_pieces k s.head.shelf (pair_of c.plan_lane.new.controller k).commands in
     record {
-      leads = λ lanes stands. led_more same was.session was.windows there stands.count c.index_mut.ensures.value (any_default c.loop-at.windows i c.index-windows-at.result no_window (omega (arith, was.windows.count))) (was.leads lanes stands) c.plan_lane.ensures.leads;
+      leads = λ lanes stands. led_more same was.session was.windows there stands.count c.index_mut.ensures.value (get_or_default c.loop-at.windows i c.index-windows-at.result no_window (omega (arith, was.windows.count))) (was.leads lanes stands) c.plan_lane.ensures.leads;
       session = session_more same was.session there c.plan_lane.ensures.run (ap (λ (p : PlanState). length p.lanes) c.plan_lane.ensures.plan ∙ length-set old.plan.lanes (k - 1) pieces)
           (ap (λ (p : PlanState). p.room) c.plan_lane.ensures.plan) refl c.plan_lane.ensures.capacity;
       windows = each_window same there c.plan_lane.ensures.window was.windows;

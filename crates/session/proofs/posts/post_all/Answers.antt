@@ -1,5 +1,6 @@
 use Rattle.std.proofs.Common.{◌≡◌, ◌∙◌, ◌+◌, ◌≤◌, ◌<◌, ⊎_elim, ℕ, List, [], set, length, ap, sym, refl, subst, arith, rules}
 use Rattle.std.proofs.lemmas.Bool.{cases_eq}
+use Rattle.std.proofs.lemmas.List.{get_or_default}
 use Rattle.std.specs.Vec.{with_item}
 use Rattle.guest_ram.specs.Window.{no_window}
 use Rattle.hall.specs.Plan.{pieces_of}
@@ -8,7 +9,7 @@ use Rattle.controller.specs.Pair.{PairState, pair_of}
 use Rattle.session.specs.declared.lane_run.LaneRun.{LaneRun}
 use Rattle.session.specs.declared.session.Session.{Session}
 use Rattle.session.specs.Lanes.{IsRunOf}
-use Rattle.session.proofs.AllLanesLemmas.{IsSameButLane, all_led, any_default, each_run, each_window, led_more, none_yet, other_pair, planned_other, run_at, run_here, session_more, window_at}
+use Rattle.session.proofs.AllLanesLemmas.{IsSameButLane, all_led, each_run, each_window, led_more, none_yet, other_pair, planned_other, run_at, run_here, session_more, window_at}
 use Rattle.session.proofs.posts.post_all.Goals as goal
 
 pub loop-at-init : goal.loop-at-init
@@ -35,7 +36,7 @@ pub post_lane-requires-clause-window : goal.post_lane-requires-clause-window
 post_lane-requires-clause-window c =
     let is = run_at c.loop-at.at c.index_mut.result.now c.loop-at.invariant.session (omega arith) c.index_mut.ensures.value in
     let windows = c.loop-at.invariant.windows in
-    window_at c.loop-at.at c.index_mut.result.now.script.lane _ windows (omega arith) is.lane (any_default c.loop-at.windows c.loop-at.at c.index-windows-at.result no_window (omega (arith, windows.count)))
+    window_at c.loop-at.at c.index_mut.result.now.script.lane _ windows (omega arith) is.lane (get_or_default c.loop-at.windows c.loop-at.at c.index-windows-at.result no_window (omega (arith, windows.count)))
 
 pub post_lane-requires-clause-there : goal.post_lane-requires-clause-there
 post_lane-requires-clause-there c =
@@ -84,7 +85,7 @@ loop-at-preserved c =
     record { at = at; lanes = refl; windows_are = refl; pairs = c.post_lane.ensures.others } in
     record {
       leads = λ lanes stands. led_more same was.session was.windows there stands.count c.index_mut.ensures.value
-          (any_default c.loop-at.windows i c.index-windows-at.result no_window (omega (arith, was.windows.count))) (was.leads lanes stands) c.post_lane.ensures.leads;
+          (get_or_default c.loop-at.windows i c.index-windows-at.result no_window (omega (arith, was.windows.count))) (was.leads lanes stands) c.post_lane.ensures.leads;
       session = session_more same was.session there c.post_lane.ensures.run refl refl refl c.post_lane.ensures.capacity;
       windows = each_window same there c.post_lane.ensures.window was.windows;
       planned = λ j low high after. planned_other j same low (λ here. omega (arith, at, after, here)) refl (was.planned j low high (omega (arith, after)));

@@ -1,13 +1,14 @@
-use Rattle.std.proofs.Common.{◌∙◌, ◌++◌, List, ℕ, length, map, sum, ap, sym, refl, subst}
-use Rattle.std.proofs.lemmas.List.{length-map}
+use Rattle.std.proofs.Common.{◌∙◌, [], arith, rules, ◌++◌, List, ℕ, length, map, sum, ap, sym, refl, subst}
+use Rattle.std.proofs.lemmas.List.{length-append, length-map}
 use Rattle.nvm_values.specs.Status.{StatusPair}
 use Rattle.nvm_model.specs.declared.line.Line.{Line}
 use Rattle.nvm_model.specs.declared.piece.PieceResult.{PieceResult}
 use Rattle.nvm_model.specs.Turn.{PostsAll}
 use Rattle.nvm_model.specs.World.{set_of}
-use Rattle.controller.specs.Pair.{outcomes_of, pair_of, post_line, told_fetch, worked}
+use Rattle.controller.specs.Pair.{ended, outcomes_of, pair_of, post_line, told_post, worked}
+use Rattle.controller.proofs.StepLemmas.{HasKept, posted_few, posts_kept}
 use Rattle.session.specs.Lanes.{LeadsLane}
-use Rattle.session.proofs.LanePartLemmas.{pieces_told, posts_lane, run_set, stands_control}
+use Rattle.session.proofs.LanePartLemmas.{pair_stepped, pieces_told, posts_lane, run_set, stands_control}
 use Rattle.session.proofs.posts.post_lane.Goals as goal
 
 pub finish_turn-requires-clause-results : goal.finish_turn-requires-clause-results
@@ -17,9 +18,25 @@ finish_turn-requires-clause-results c =
     ap length c.as_slice.ensures.value ∙ c.requires.done ∙ pieces_told k s.head.shelf s.head.blocks (set_of s.head k).pages (pair_of c.args.controller.now k).commands c.requires.checked
     ∙ sym (ap (λ (fs : List (ℕ × StatusPair × ℕ)). sum (map (λ (f : ℕ × StatusPair × ℕ). f.2) fs)) c.requires.told)
 
-pub finish_turn-requires-clause-told : goal.finish_turn-requires-clause-told
-finish_turn-requires-clause-told c =
-    ap length c.requires.told ∙ length-map (pair_of c.args.controller.now c.args.run.now.script.lane).commands (told_fetch c.args.script.now.head.shelf)
+-- what the posts left of the pair and of the window
+kept : (c : goal.After-push_posts) → HasKept (map told_post (ended (pair_of c.args.controller.now c.args.run.now.script.lane).commands (pair_of c.args.controller.now c.args.run.now.script.lane).fetched (outcomes_of c.as_slice.result.now)))
+    (record (pair_of c.args.controller.now c.args.run.now.script.lane) { commands = []; fetched = []; posted = [] }) c.args.window.now (pair_of c.finish_turn.new.self c.args.run.now.script.lane) c.finish_turn.new.w
+kept c = posts_kept c.args.run.now.script.lane _ _ _ c.args.window.now c.finish_turn.new.w c.finish_turn.ensures.step.step
+
+pub push_posts-requires : goal.push_posts-requires
+push_posts-requires c =
+    let k = c.args.run.now.script.lane in
+    let few = posted_few k c.as_slice.result.now (pair_of c.args.controller.now k) (pair_of c.finish_turn.new.self k) c.args.window.now c.finish_turn.new.w c.finish_turn.ensures.step.step in
+    let told = ap (λ (ps : List (ℕ × StatusPair)). length ps) c.posted.ensures in
+    omega (arith, few, told, c.requires.few, c.requires.head.burst.1, c.requires.room)
+
+pub returns-clause-count : goal.returns-clause-count
+returns-clause-count c =
+    let k = c.args.run.now.script.lane in
+    let few = posted_few k c.as_slice.result.now (pair_of c.args.controller.now k) (pair_of c.finish_turn.new.self k) c.args.window.now c.finish_turn.new.w c.finish_turn.ensures.step.step in
+    let told = ap (λ (ps : List (ℕ × StatusPair)). length ps) c.posted.ensures in
+    let pushed = ap length c.push_posts.ensures.events in
+    omega (arith, few, told, pushed, length-append c.args.events.now.items (map (post_line k) c.posted.result.now), length-map c.posted.result.now (post_line k), c.requires.few, c.requires.head.burst.1)
 
 pub returns-clause-leads : goal.returns-clause-leads
 returns-clause-leads c = λ l stands.
@@ -27,7 +44,16 @@ returns-clause-leads c = λ l stands.
     let k = c.args.run.now.script.lane in
     let commands = (pair_of c.args.controller.now k).commands in
     let running = stands.running ∙ ap (λ (rs : List PieceResult). worked s.head.shelf commands (outcomes_of rs)) (sym c.as_slice.ensures.value) in
-    let posts = c.finish_turn.ensures.posts s l (run_set c.requires.run) c.requires.told (stands_control stands) running in
+    let posts = c.finish_turn.ensures.posts.step s l (run_set c.requires.run) c.requires.told (stands_control stands) running in
     let told = c.push_posts.ensures.events ∙ ap (λ (ts : List (ℕ × StatusPair)). c.args.events.now.items ++ map (post_line k) ts) c.posted.ensures in
     subst (λ (es : List Line). LeadsLane s k (PostsAll s) l (record c.args.run.now { results = c.clear.new.self }) (pair_of c.finish_turn.new.self k) c.finish_turn.new.w c.args.events.now.items es) (sym told)
-    (posts_lane c.args.events.now.items stands refl refl posts c.finish_turn.ensures.between.0)
+    (posts_lane c.args.events.now.items stands refl refl posts (kept c).commands)
+
+pub returns-clause-none : goal.returns-clause-none
+returns-clause-none c = (search rules, (kept c).commands)
+
+pub returns-clause-window : goal.returns-clause-window
+returns-clause-window c = record { lane = (kept c).lane ∙ c.requires.window.lane; size = (kept c).size ∙ c.requires.window.size }
+
+pub returns-clause-others : goal.returns-clause-others
+returns-clause-others c = pair_stepped c.finish_turn.ensures.step

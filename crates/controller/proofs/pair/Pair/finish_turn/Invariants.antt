@@ -1,22 +1,27 @@
-use Rattle.std.proofs.Common.{◌≡◌, ◌+◌, ◌≤◌, drop, length, map, sum, vec_len, vec_capacity}
-use Rattle.nvm_model.specs.declared.script.Script.{Script}
-use Rattle.nvm_model.specs.ScriptText.{IsSet}
-use Rattle.nvm_model.specs.World.{Lane, set_of}
-use Rattle.guest_ram.specs.Window.{data_pages}
-use Rattle.controller.specs.Pair.{Stands, outcomes_of, told_fetch, worked}
-use Rattle.controller.specs.Parts.{HasPosted, seen}
+use Rattle.std.proofs.Common.{◌≡◌, ◌+◌, ◌≤◌, [], drop, length, map, sum, vec_len, vec_capacity}
+use Rattle.controller.specs.Pair.{ended, free_places, outcomes_of, told_post}
+use Rattle.controller.specs.Parts.{HasPosted}
 use Rattle.controller.proofs.pair.Pair.finish_turn.Given as goal
 
 abbrev pub invariant-posts : goal.invariant-posts
-invariant-posts l = record {
-  posted : (s : Script) (a : Lane) → IsSet (set_of s.head l.lane) → l.fn.self.fetched.items ≡ map (told_fetch s.head.shelf) l.fn.self.commands.items
-      → Stands l.lane (set_of s.head l.lane) (seen l.fn.self) l.fn.w a → a.running ≡ worked s.head.shelf l.fn.self.commands.items (outcomes_of l.results)
-      → HasPosted s l.lane a (worked s.head.shelf (drop l.place l.fn.self.commands.items) (drop l.at (outcomes_of l.results))) (seen l.self) l.w;
-  left : l.at + sum (map (λ f. f.2) (drop l.place l.fn.self.fetched.items)) ≡ length l.results;
-  count : vec_len l.self.posted ≤ l.place;
-  commands : l.self.commands ≡ l.fn.self.commands;
-  fetched : l.self.fetched ≡ l.fn.self.fetched;
-  capacity : vec_capacity l.self.posted ≡ vec_capacity l.fn.self.posted;
-  memory : data_pages l.w ≡ data_pages l.fn.w;
-  window : (l.w.lane ≡ l.fn.w.lane) × (length l.w.pages ≡ length l.fn.w.pages);
-}
+invariant-posts l =
+    let commands = l.fn.self.commands in
+    let fetched = l.fn.self.fetched in
+    let outcomes = outcomes_of l.results in
+    record {
+      posted : HasPosted l.lane (map told_post (ended commands fetched outcomes)) (map told_post (ended (drop l.place commands) (drop l.place fetched) (drop l.at outcomes)))
+          (record l.fn.self { commands = []; fetched = []; posted = [] }) l.fn.w
+          (record l.fn.self { cq = l.self-inside.cq; commands = []; fetched = []; posted = l.self-inside.posted.items }) l.w;
+      left : l.at + sum (map (λ f. f.2) (drop l.place fetched)) ≡ length l.results;
+      count : vec_len l.self-inside.posted ≡ l.place;
+      capacity : vec_capacity l.self-inside.posted ≡ l.fn.self.room;
+      space : length commands ≤ free_places l.self-inside.cq + l.place;
+      sq : l.self-inside.sq ≡ l.fn.self.sq;
+      commands : l.self-inside.commands.items ≡ commands;
+      fetched : l.self-inside.fetched.items ≡ fetched;
+      room : l.self-inside.room ≡ l.fn.self.room;
+      commands_room : vec_capacity l.self-inside.commands ≡ l.fn.self.room;
+      fetched_room : vec_capacity l.self-inside.fetched ≡ l.fn.self.room;
+      lane : l.w.lane ≡ l.fn.w.lane;
+      size : length l.w.pages ≡ length l.fn.w.pages;
+    }

@@ -27,20 +27,25 @@ pub record HasWindow (k : ℕ) (set : LaneSet) (pages : List (List ℕ)) (lane :
   pub entries : IsSqRing (sq_of set lane) (page_at pages 0) (drop lane.fetched lane.submitted)
   pub completions : IsCqPage set.cq (page_at pages 1) (posted_entries k lane.posted)
 
--- A lane whose queues are in order. The head that the guest was told last shows that so many entries were fetched. Each
--- completion that it hasn't reaped tells the head as it is now, and so does the last one where all fetched are posted.
+-- Each completion tells the submission queue's head as it was posted: the place of the number of entries that were
+-- fetched by then, `told n` of them as completion n was posted, which never falls. Where nothing runs the last told all.
+pub record TellsHeads (size : ℕ) (posted : List Completion) (fetched : ℕ) (told : ℕ → ℕ) : Type 0 where
+  pub none : told 0 ≡ 0
+  pub heads : (m : ℕ) (c : Completion) → slice_get posted m ≡ Some c → c.head ≡ told (m + 1) % size
+  pub rising : (m n : ℕ) → m ≤ n → n ≤ length posted → told m ≤ told n
+  pub few : told (length posted) ≤ fetched
+  pub last : length posted ≡ fetched → told (length posted) ≡ fetched
+
+-- A lane whose queues are in order. The guest knows of so many fetched entries as the last completion told that it reaped.
 pub record IsOrdered (set : LaneSet) (lane : Lane) : Type 0 where
   pub submitted : length lane.submitted ≤ lane.acts
   pub fetched : lane.fetched ≤ length lane.submitted
   pub posted : length lane.posted + length lane.running ≡ lane.fetched
   pub reaped : lane.reaped ≤ length lane.posted
   pub in_flight : lane.fetched < lane.reaped + set.cq
-  pub told : ℕ
-  pub told_is : head_of_last lane.posted lane.reaped ≡ told % set.sq
-  pub told_few : told ≤ lane.fetched
-  pub untold : length lane.submitted < told + set.sq
-  pub heads : (m : ℕ) (c : Completion) → lane.reaped ≤ m → slice_get lane.posted m ≡ Some c → c.head ≡ lane.fetched % set.sq
-  pub last : length lane.posted ≡ lane.fetched → head_of_last lane.posted lane.fetched ≡ lane.fetched % set.sq
+  pub told : ℕ → ℕ
+  pub tells : TellsHeads set.sq lane.posted lane.fetched told
+  pub untold : length lane.submitted < told lane.reaped + set.sq
 
 -- the guest's ends of the two rings, and how many of its entries have no completion that it reaped
 pub record HasGuestEnds (set : LaneSet) (sq : RingState) (cq : GuestCqState) (waiting : ℕ) (lane : Lane) : Type 0 where
