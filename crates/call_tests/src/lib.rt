@@ -3,11 +3,19 @@
 #![tactic(auto)]
 
 #[cfg(test)]
+mod controllers;
+#[cfg(test)]
+mod guests;
+#[cfg(test)]
 mod moves;
+#[cfg(test)]
+mod namespaces;
 #[cfg(test)]
 mod programs;
 #[cfg(test)]
 mod scripts;
+#[cfg(test)]
+mod shelves;
 #[cfg(test)]
 mod stops;
 #[cfg(test)]

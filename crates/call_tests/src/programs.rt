@@ -9,8 +9,7 @@ use std::test::Fail;
 use std::thread::Threads;
 
 /// The rest of a head behind its lanes, with no migration.
-pub(crate) const PACE: &str =
-    "burst 4\nmix 0\nchange 4\nslice 4\nsmall 4\npages 4\npatience 8\n";
+pub(crate) const PACE: &str = "burst 4\nmix 0\nchange 4\nslice 4\nsmall 4\npages 4\npatience 8\n";
 
 /// What a call is given beside its script: the words for the namespace and its shelves, the blocks of each shelf of
 /// either host, and the numbers of the reads of the input, of the writes of the output, and of the calls of either host's

@@ -2,8 +2,9 @@
 
 use mig_base::{BytesSink, Failed};
 use nvm_values::Op;
-use script::{Act, BadLine, Head, LaneSet, ParseRefusal, Script, Why};
-use script::{parse, parse_front, write_script};
+use script::{
+    Act, BadLine, Head, LaneSet, ParseRefusal, Script, Why, parse, parse_front, write_script,
+};
 use std::alloc::{AllocError, Global};
 use std::test::Fail;
 
@@ -196,10 +197,7 @@ end
 ";
 
 /// Reads the script, and writes it to a sink whose calls of these numbers fail: the answer, and what was taken.
-fn rewritten(
-    alloc: Global,
-    fails: &[u64],
-) -> Result<(Result<(), Failed>, BytesSink), Fail> {
+fn rewritten(alloc: Global, fails: &[u64]) -> Result<(Result<(), Failed>, BytesSink), Fail> {
     let Ok(script) = parse(alloc, EACH_ACT.as_bytes()) else {
         return Err(Fail::from("no script"));
     };
@@ -270,10 +268,13 @@ fn bad_fronts_are_told(rt: HostRuntime) -> Result<(), Fail> {
     for (line, text, why) in spoils {
         let text = spoilt(rt.alloc(), line, text)?;
         let found = parse_front(rt.alloc(), &text).err();
-        assert!(rt; found == Some(ParseRefusal::Bad(BadLine {
-            line: line as u32,
-            why,
-        })));
+        assert!(rt;
+            found
+                == Some(ParseRefusal::Bad(BadLine {
+                    line: line as u32,
+                    why,
+                }))
+        );
     }
     Ok(())
 }

@@ -8,6 +8,3 @@ mod pair;
 
 pub use controller::{Controller, Phase};
 pub use nvm_model::LaneSet as PairSet;
-
-#[cfg(test)]
-mod tests;

@@ -7,6 +7,3 @@ mod guest;
 
 pub use guest::{ActAnswer, Guest};
 pub use nvm_model::{Act, LaneSet as PairSet};
-
-#[cfg(test)]
-mod tests;

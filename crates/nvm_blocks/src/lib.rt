@@ -13,6 +13,3 @@ mod work;
 pub use namespace::Namespace;
 pub use nvm_model::{Outcome, Piece, PieceResult, ShelfEntry};
 pub use shelf::Shelf;
-
-#[cfg(test)]
-mod tests;

@@ -155,6 +155,3 @@ impl<M: Medium> Namespace<M> {
         take_media(shelves, spare)
     }
 }
-
-#[cfg(test)]
-mod tests;

@@ -1,7 +1,9 @@
+//! The controller of one queue pair, over rings that a guest fills and rings that nobody does.
+
 ghost use Rattle.std.specs.Prelude.{◌≡◌, ◌≤◌, IfOk, IfSome, length, map, sum};
 ghost use Rattle.controller.specs.declared.controller.Phase.TheVariants.{Running};
 
-use super::*;
+use controller::{Controller, PairSet, Phase};
 use guest_ram::{Ram, Window};
 use hall::Plan;
 use mig_base::LaneNo;

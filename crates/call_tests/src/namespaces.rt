@@ -1,11 +1,13 @@
+//! Namespaces of several shelves: which medium got which calls.
+
 ghost use Rattle.std.specs.Prelude.{◌≡◌, All, IfOk, length, replicate};
 ghost use Rattle.nvm_blocks.specs.Namespace.{rooms_of};
 
-use crate::Namespace;
-use crate::tests::{ended, fill, has_pages, piece};
+use crate::shelves::{ended, fill, has_pages, piece};
 use guest_ram::{Ram, Window};
 use mig_base::Failed;
 use mig_medium::{Medium, MemMedium, Step};
+use nvm_blocks::Namespace;
 use nvm_model::{Outcome, Piece, PieceResult};
 use nvm_values::Op;
 use std::alloc::Global;

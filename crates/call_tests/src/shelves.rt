@@ -1,11 +1,13 @@
+//! Shelves: pieces on a medium in memory, with calls that fail.
+
 ghost use Rattle.std.specs.Prelude.{◌≡◌, IfOk, IsTrue, length};
 ghost use Rattle.guest_ram.specs.Window.{data_pages};
 ghost use Rattle.nvm_blocks.specs.Work.{HasPages};
 
-use super::*;
 use guest_ram::{Ram, Window};
 use mig_base::{Failed, LaneNo, Span};
 use mig_medium::{Medium, MemMedium, Step};
+use nvm_blocks::{Outcome, Piece, PieceResult, Shelf};
 use nvm_model::Pages;
 use nvm_values::Op;
 use std::alloc::Global;

@@ -1,8 +1,10 @@
+//! The guest of one queue pair, over rings that a controller fills.
+
 ghost use Rattle.std.specs.Prelude.{◌≡◌, length};
 ghost use Rattle.nvm_model.specs.ScriptText.{IsAct, IsSet};
 
-use super::*;
 use guest_ram::{Ram, Window};
+use lanes::{Act, ActAnswer, Guest, PairSet};
 use mig_base::LaneNo;
 use nvm_ring::{CqRing, RingState};
 use nvm_values::{Cqe, Op, Status};
