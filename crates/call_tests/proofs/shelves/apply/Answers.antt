@@ -1,6 +1,6 @@
 use Rattle.std.proofs.Common.{ap, ◌∙◌}
 use Rattle.nvm_blocks.proofs.CallLemmas.{applied_size}
-use Rattle.nvm_blocks.proofs.tests.apply.Goals as goal
+use Rattle.call_tests.proofs.shelves.apply.Goals as goal
 
 pub returns : goal.returns
 returns c = (

@@ -1,5 +1,5 @@
 use Rattle.std.proofs.Common.{◌≡◌, ◌+◌, drop, map, sum}
-use Rattle.controller.proofs.tests.piece_number.Given as goal
+use Rattle.call_tests.proofs.controllers.piece_number.Given as goal
 
 abbrev pub invariant-loop-f : goal.invariant-loop-f
 invariant-loop-f l = record {

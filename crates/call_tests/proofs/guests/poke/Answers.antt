@@ -1,6 +1,6 @@
 use Rattle.std.proofs.Common.{ℕ, ◌<◌, All, List, set, replicate, refl, arith}
 use Rattle.std.proofs.lemmas.List.Elements.{All-replicate, All-set}
-use Rattle.lanes.proofs.tests.poke.Goals as goal
+use Rattle.call_tests.proofs.guests.poke.Goals as goal
 
 abbrev is_byte : ℕ → Type 0
 is_byte byte = byte < 256

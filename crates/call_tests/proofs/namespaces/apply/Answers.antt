@@ -5,7 +5,7 @@ use Rattle.nvm_blocks.specs.Namespace.{entries_of, rooms_of}
 use Rattle.nvm_blocks.specs.Shelves.{cleared}
 use Rattle.nvm_blocks.proofs.NamespaceLaws.{as_many_shelves}
 use Rattle.nvm_blocks.proofs.ShelvesLemmas.{cleared_entries, cleared_rooms}
-use Rattle.nvm_blocks.proofs.namespace.tests.apply.Goals as goal
+use Rattle.call_tests.proofs.namespaces.apply.Goals as goal
 
 -- each of three empty shelves has room for an entry
 has_room : (i : ℕ) → i < 3 → length (get_or (replicate {A = List ShelfEntry} 3 []) i []) < get_or (replicate 3 1) i 0
