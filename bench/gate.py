@@ -1,77 +1,88 @@
 #!/usr/bin/env python3
-"""What each crate costs the gate: prints a table of processor seconds, user and system, for docs/GATE.md.
+"""Runs the gate and prints what each crate costs it, in processor seconds, user and system, as tables for docs/GATE.md.
 
-    bench/gate.py [NAME ..]
+    bench/gate.py [COMMAND ..]
 
-Of each crate (all of them without a name, lowest first), one after another: its proof from nothing over its built
-libraries, the same with its tests, and its must-fail edits after that. Run it where nothing else runs; what the crates
-keep in out/ is removed as it goes.
+Without a COMMAND it is `.ci/run`. A fifth of a second apart it looks at the provers that run below this process, and counts
+what each had used when it was seen last: those that build a crate are its proof, with `--test` that of its tests, and
+those that check one try its edits. What the command printed goes to gate.log in the folder for temporary files.
 """
+import collections
 import os
 import resource
-import shutil
 import subprocess
 import sys
+import tempfile
+import time
 
 TOP = os.path.dirname(os.path.dirname(os.path.abspath(__file__)))
+TICKS = os.sysconf("SC_CLK_TCK")
 
 
-def below(text):
-    """The crates of crates.txt, each with the crates of this repository on which it stands, lowest first."""
-    stands = {}
-    for line in text.splitlines():
-        name, found, libraries = line.split("#")[0].partition(":")
-        if found:
-            stands[name.split()[0]] = libraries.split()
-    order = []
-
-    def visit(name):
-        if name in stands and name not in order:
-            for library in stands[name]:
-                visit(library)
-            order.append(name)
-
-    for name in stands:
-        visit(name)
-    return order
+def words_of(pid):
+    """The words of a process, or none where it is gone."""
+    try:
+        with open(f"/proc/{pid}/cmdline", "rb") as file:
+            return file.read().decode("utf-8", "replace").split("\0")
+    except OSError:
+        return []
 
 
-def seconds(words, folder):
-    """The processor seconds of a command, and whether it ended well."""
-    before = resource.getrusage(resource.RUSAGE_CHILDREN)
-    ended = subprocess.run(words, cwd=folder, stdout=subprocess.DEVNULL, stderr=subprocess.DEVNULL)
-    after = resource.getrusage(resource.RUSAGE_CHILDREN)
-    used = after.ru_utime + after.ru_stime - before.ru_utime - before.ru_stime
-    return f"{used:.0f}" if ended.returncode == 0 else f"{used:.0f} (failed)"
+def seen(pid):
+    """The parent of a process, when it began, and its processor seconds; nothing where it is gone."""
+    try:
+        with open(f"/proc/{pid}/stat", encoding="utf-8") as file:
+            fields = file.read().rsplit(")", 1)[1].split()
+    except OSError:
+        return None
+    return int(fields[1]), int(fields[19]), (int(fields[11]) + int(fields[12])) / TICKS
 
 
-def has_tests(folder):
-    """Whether a crate has test functions."""
-    return any(
-        "#[test]" in open(os.path.join(place, name), encoding="utf-8").read()
-        for place, _, names in os.walk(os.path.join(folder, "src"))
-        for name in names
-    )
+def below(top):
+    """The processes below one."""
+    parents = {int(name): seen(name) for name in os.listdir("/proc") if name.isdigit()}
+    found, level = {}, {top}
+    while level:
+        level = {pid for pid, one in parents.items() if one and one[0] in level and pid not in found}
+        found.update((pid, parents[pid]) for pid in level)
+    return found
+
+
+def kind_of(words):
+    """The crate that a prover works on, and what for."""
+    if "--crate-name" not in words or not words[0].endswith("rattle"):
+        return None
+    name = words[words.index("--crate-name") + 1]
+    if "--test" in words:
+        return name, "tests"
+    return name, "edits" if words[1] == "check" else "proof"
 
 
 def main():
-    with open(os.path.join(TOP, "crates.txt"), encoding="utf-8") as file:
-        crates = below(file.read())
-    wanted = sys.argv[1:] or crates
-    print("| crate | proof | with its tests | edits | seconds of the edits |")
-    print("|---|---|---|---|---|")
-    for name in (crate for crate in crates if crate in wanted):
-        folder = os.path.join(TOP, "crates", name)
-        edits = os.path.join(folder, "must-fail")
-        count = len(os.listdir(edits)) if os.path.isdir(edits) else 0
-        shutil.rmtree(os.path.join(folder, "out"), ignore_errors=True)
-        tested = "-"
-        if has_tests(folder):
-            tested = seconds(["rt", "check", "--test", "--jobs", "1"], folder)
-            shutil.rmtree(os.path.join(folder, "out"), ignore_errors=True)
-        proof = seconds(["rt", "check", "--jobs", "1"], folder)
-        refused = seconds(["rt", "must-fail", name], TOP) if count else "-"
-        print(f"| {name} | {proof} | {tested} | {count} | {refused} |", flush=True)
+    command = sys.argv[1:] or [os.path.join(TOP, ".ci", "run")]
+    used, kinds = {}, {}
+    began = time.time()
+    log = os.path.join(tempfile.gettempdir(), "gate.log")
+    with open(log, "w", encoding="utf-8") as out:
+        gate = subprocess.Popen(command, cwd=TOP, stdout=out, stderr=subprocess.STDOUT, stdin=subprocess.DEVNULL)
+        while gate.poll() is None:
+            for pid, (_, start, seconds) in below(gate.pid).items():
+                key = pid, start
+                if key not in kinds:
+                    kinds[key] = kind_of(words_of(pid))
+                if kinds[key]:
+                    used[key] = seconds
+            time.sleep(0.2)
+    whole = resource.getrusage(resource.RUSAGE_CHILDREN)
+    sums = collections.Counter()
+    for key, seconds in used.items():
+        sums[kinds[key]] += seconds
+    print("| crate | proof | tests | edits |")
+    print("|---|---|---|---|")
+    for name in sorted({name for name, _ in sums}):
+        print(f"| {name} | " + " | ".join(f"{sums[name, kind]:.0f}" for kind in ("proof", "tests", "edits")) + " |")
+    print("| all | " + " | ".join(f"{sum(n for (_, k), n in sums.items() if k == kind):.0f}" for kind in ("proof", "tests", "edits")) + " |")
+    print(f"\n{whole.ru_utime:.0f} user and {whole.ru_stime:.0f} system seconds in {time.time() - began:.0f} seconds; status {gate.returncode}; {log}")
 
 
 main()
