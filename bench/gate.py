@@ -68,7 +68,7 @@ def main():
         while gate.poll() is None:
             for pid, (_, start, seconds) in below(gate.pid).items():
                 key = pid, start
-                if key not in kinds:
+                if not kinds.get(key):
                     kinds[key] = kind_of(words_of(pid))
                 if kinds[key]:
                     used[key] = seconds
