@@ -7,7 +7,7 @@ use Rattle.std.proofs.lemmas.Nat.{div-add-mod'}
 use Rattle.nvm_model.specs.declared.script.Head.{Head}
 use Rattle.nvm_model.specs.ScriptText.{IsHead}
 use Rattle.script.specs.declared.key.Key.{Key}
-use Rattle.script.specs.declared.key.Key.TheVariants.{Blocks, Shelf, Lanes, Burst, Mix, Change, Slice, Small, Pages, Patience}
+use Rattle.script.specs.declared.key.Key.TheVariants.{Blocks, Shelf, Lanes, Burst}
 use Rattle.script.specs.declared.key.Due.TheVariants.{Number, Behind}
 use Rattle.script.specs.Words.{next}
 use Rattle.script.specs.Keys.{number, with_number, lowest, highest, are_shelves, later_keys, after, earlier, no_head}

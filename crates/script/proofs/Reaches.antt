@@ -13,11 +13,11 @@ use Rattle.nvm_model.specs.declared.script.Script.{Script}
 use Rattle.nvm_model.specs.World.{set_of as lane_set}
 use Rattle.nvm_model.specs.ScriptText.{IsSet, IsTurn, IsHead, IsActLine, IsScript}
 use Rattle.script.specs.declared.key.Key.{Key}
-use Rattle.script.specs.declared.key.Key.TheVariants.{Blocks, Shelf, Lanes, Burst, Patience}
+use Rattle.script.specs.declared.key.Key.TheVariants.{Blocks, Shelf, Lanes, Burst}
 use Rattle.script.specs.declared.key.Due.{Due}
 use Rattle.script.specs.declared.key.Due.TheVariants.{Title, Number, Lane, Behind, Body, Done}
 use Rattle.script.specs.Words.{◌>>=◌, cut_at, words_of, digits_on, number_in as word_number, ranged_in}
-use Rattle.script.specs.Keys.{key_word, number, with_number, later_keys, after, earlier, no_set, no_head, later_back}
+use Rattle.script.specs.Keys.{key_word, number, with_number, later_keys, after, no_set, no_head, later_back}
 use Rattle.script.specs.ActWords.{line_in}
 use Rattle.script.specs.Lines.{title, keyed, lane_words, set_of, State, start, due_next, number_in, with_lane, with_act, body_step, with_turn, step_at, step, run}
 use Rattle.script.proofs.WordLaws.{bind_step, words_joined, joined_free}

@@ -10,7 +10,7 @@ use Rattle.nvm_model.specs.declared.script.LaneSet.{LaneSet}
 use Rattle.nvm_model.specs.declared.script.Script.{Script}
 use Rattle.nvm_model.specs.ScriptText.{lane_line, lane_lines, migrate_line, head_text, act_line, script_text}
 use Rattle.script.specs.declared.key.Key.{Key}
-use Rattle.script.specs.declared.key.Key.TheVariants.{Blocks, Shelf, Lanes, Patience}
+use Rattle.script.specs.declared.key.Key.TheVariants.{Blocks, Shelf, Lanes}
 use Rattle.script.specs.declared.key.Due.{Due}
 use Rattle.script.specs.declared.key.Due.TheVariants.{Title, Number, Lane, Behind, Body, Done}
 use Rattle.script.specs.Keys.{key_word, number, with_number, after, earlier, later_back}

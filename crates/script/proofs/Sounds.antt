@@ -11,11 +11,11 @@ use Rattle.nvm_model.specs.declared.script.LaneSet.{LaneSet}
 use Rattle.nvm_model.specs.World.{set_of as lane_set}
 use Rattle.nvm_model.specs.ScriptText.{IsSet, IsTurn, IsHead, IsActLine}
 use Rattle.script.specs.declared.key.Key.{Key}
-use Rattle.script.specs.declared.key.Key.TheVariants.{Blocks, Shelf, Lanes, Burst, Patience}
+use Rattle.script.specs.declared.key.Key.TheVariants.{Blocks, Shelf, Lanes, Burst}
 use Rattle.script.specs.declared.key.Due.{Due}
 use Rattle.script.specs.declared.key.Due.TheVariants.{Title, Number, Lane, Behind, Body, Done}
 use Rattle.script.specs.Words.{◌>>=◌, words_of, ranged_in, is_numeral}
-use Rattle.script.specs.Keys.{key_word, with_number, after, earlier, no_set, later_back}
+use Rattle.script.specs.Keys.{key_word, with_number, after, no_set, later_back}
 use Rattle.script.specs.ActWords.{line_in, is_act_form}
 use Rattle.script.specs.Lines.{title, keyed, lane_words, set_of, is_number, are_numbers, is_body, is_due, State, due_next, number_in, with_lane, with_act, body_step, with_turn, step_at}
 use Rattle.script.proofs.WordLaws.{bind_some, some_is, chosen}

@@ -1,19 +1,18 @@
 -- Words with a value: what is read is spelled so, and what is spelled so is read and has its form.
-use Rattle.std.proofs.Common.{◌≡◌, ℕ, zero, suc, ◌+◌, ◌-◌, ◌*◌, ◌/◌, ◌%◌, ◌^◌, ◌<◌, ◌≤◌, Bool, true, false, ◌&&◌, ◌||◌, cond, eqb, ltb, leb, List, [], ◌∷◌, length, get_or, slice_index, codes, Option, Some, None, unwrap_or, Result, Ok, Err, refl, sym, ap, subst, ◌∙◌, arith, rules, inl, inr, decimal}
+use Rattle.std.proofs.Common.{append_assoc, ◌++◌, set, take, drop, ◌≡◌, ℕ, zero, suc, ◌+◌, ◌-◌, ◌*◌, ◌/◌, ◌%◌, ◌^◌, ◌<◌, ◌≤◌, Bool, true, false, ◌&&◌, ◌||◌, cond, eqb, ltb, leb, List, [], ◌∷◌, length, get_or, slice_index, codes, Option, Some, None, refl, sym, ap, subst, ◌∙◌, arith, rules, inl, inr, decimal}
 use Rattle.std.specs.List.{AllByRecursion, list_all}
 use Rattle.std.specs.Str.{all_ascii_digits, bytes_eq}
-use Rattle.std.proofs.lemmas.Bool.{ltb-true, lt-ltb, leb-true, le-leb, eqb-true, eqb-false, ne_eqb, and_parts, and_from, or_cases, or_right, cases_lt, false_from_ne_true}
+use Rattle.std.proofs.lemmas.Bool.{ltb-true, lt-ltb, leb-true, le-leb, eqb-true, eqb-false, ne_eqb, and_parts, and_from, or_cases, or_right, cases_lt, false_from_ne_true, or_left, eq-eqb}
+use Rattle.std.proofs.lemmas.List.{append-nil, length-set, take_more_set, take_all, nil_from_length}
 use Rattle.std.proofs.lemmas.Slice.Eq.{bytes_eq-Decides}
 use Rattle.std.proofs.lemmas.Str.Parse.{IsNumeralModel, numerals_by_fold}
 use Rattle.std.proofs.lemmas.Nat.{div-mul-add, mod-mul-add}
 use Rattle.std.proofs.lemmas.Fmt.{digits_decimal, digits_value-decimal, decimal-digits_value, decimal_nonempty, first_decimal, decimal_digit}
-use Rattle.hex.specs.Hex.{IsBytes, decode_sized, decode_pairs, pair_value, value_at, digit_or_error, hex_digit_value, encode_lower, encode_with, lower_digits, ◌>>=◌ as ◌then◌}
-use Rattle.hex.specs.declared.error.FromHexError.{FromHexError}
-use Rattle.hex.proofs.Pairs.{decode_sized-pairs}
-use Rattle.hex.proofs.HexLemmas.{length-encode_with, decode_pairs-encode_with, IsDigits-lower_digits}
+use Rattle.hex.specs.Hex.{encode_lower, encode_with, lower_digits}
+use Rattle.hex.proofs.HexLemmas.{length-encode_with}
 use Rattle.nvm_values.specs.declared.op.Op.{Op}
 use Rattle.nvm_values.specs.declared.op.Op.TheVariants.{Flush, Write, Read, Compare, WriteZeroes, Verify}
-use Rattle.script.specs.Words.{◌>>=◌, is_digit, are_digits, are_lower_digits, with_digit, digits_on, number_in, ranged_in, page_in, option_in, is_lower_digit, is_hex, decoded, bytes_in, op_in, is_numeral}
+use Rattle.script.specs.Words.{◌>>=◌, is_digit, are_digits, are_lower_digits, with_digit, digits_on, number_in, ranged_in, page_in, option_in, is_lower_digit, is_hex, digit_in, byte_in, pairs_in, bytes_in, op_in, is_numeral}
 use Rattle.script.proofs.WordLaws.{bind_some, bind_step, some_is, chosen, is_plain, IsPlain}
 
 -- ---- decimal numbers
@@ -171,65 +170,70 @@ lower_few c e =
       | inr h ↦ let p = and_parts (leb 97 c) (leb c 102) h in let few = leb-true c 102 p.1 in omega arith
     ]
 
-abbrev value_of : ℕ → ℕ
-value_of c = unwrap_or (hex_digit_value c) 16
+abbrev or_more : Option ℕ → ℕ
+or_more (Some v) = v
+or_more None = 16
 
--- a digit in lower case is written as its value is
-digit_takes : (c : ℕ) → is_lower_digit c ≡ true → (slice_index lower_digits (value_of c) ≡ c) × (value_of c < 16)
-digit_takes c e =
-    let h = not_true (is_lower_digit c) (eqb (slice_index lower_digits (value_of c)) c && ltb (value_of c) 16)
-    (all_below-at (λ c. not (is_lower_digit c) || (eqb (slice_index lower_digits (value_of c)) c && ltb (value_of c) 16)) 103 c refl (lower_few c e)) e in
-    let p = and_parts (eqb (slice_index lower_digits (value_of c)) c) (ltb (value_of c) 16) h in
-    (eqb-true (slice_index lower_digits (value_of c)) c p.0, ltb-true (value_of c) 16 p.1)
+-- a digit that is read is written as its value is
+some_value : (o : Option ℕ) (v : ℕ) → o ≡ Some v → or_more o ≡ v
+some_value o v e = ap or_more e
+
+lower_of : (c v : ℕ) → digit_in c ≡ Some v → is_lower_digit c ≡ true
+lower_of c v e =
+    elim (chosen (is_digit c) (Some (c - 48)) (cond (leb 97 c && leb c 102) (Some (c - 87)) None) (Some v) e) [
+      | inl h ↦ or_left (is_digit c) (leb 97 c && leb c 102) h.0
+      | inr h ↦ elim (chosen (leb 97 c && leb c 102) (Some (c - 87)) None (Some v) h.1) [
+        | inl g ↦ or_right (is_digit c) (leb 97 c && leb c 102) g.0
+        | inr g ↦ absurd cc
+      ]
+    ]
+
+digit_takes : (c v : ℕ) → digit_in c ≡ Some v → (slice_index lower_digits v ≡ c) × (v < 16)
+digit_takes c v e =
+    let lower = lower_of c v e in
+    let test : ℕ → Bool = λ c. not (is_lower_digit c) || (eqb (slice_index lower_digits (or_more (digit_in c))) c && ltb (or_more (digit_in c)) 16) in
+    let h = not_true (is_lower_digit c) (eqb (slice_index lower_digits (or_more (digit_in c))) c && ltb (or_more (digit_in c)) 16) (all_below-at test 103 c refl (lower_few c lower)) lower in
+    let p = and_parts (eqb (slice_index lower_digits (or_more (digit_in c))) c) (ltb (or_more (digit_in c)) 16) h in
+    let same = some_value (digit_in c) v e in
+    (ap (slice_index lower_digits) (sym same) ∙ eqb-true (slice_index lower_digits (or_more (digit_in c))) c p.0, rw (← same) (ltb-true (or_more (digit_in c)) 16 p.1))
+
+is_value : (o : Option ℕ) (v : ℕ) → v < 16 → eqb (or_more o) v ≡ true → o ≡ Some v
+is_value (Some u) v lt e = ap Some (eqb-true u v e)
+is_value None v lt e = let same = eqb-true 16 v e in absurd (omega arith)
+
+digit_read : (v : ℕ) → v < 16 → digit_in (slice_index lower_digits v) ≡ Some v
+digit_read v lt = is_value (digit_in (slice_index lower_digits v)) v lt (all_below-at (λ k. eqb (or_more (digit_in (slice_index lower_digits k))) k) 16 v refl lt)
 
 digit_again : (v : ℕ) → v < 16 → is_lower_digit (slice_index lower_digits v) ≡ true
 digit_again v lt = all_below-at (λ k. is_lower_digit (slice_index lower_digits k)) 16 v refl lt
-
-value_is : (c i v : ℕ) (o : Option ℕ) → digit_or_error c i o ≡ Ok v → v ≡ unwrap_or o 16
-value_is c i v (Some u) e = let same : u ≡ v = cc in sym same
-value_is c i v None e = absurd cc
-
-bind_ok : {A B : Type 0} (r : Result A FromHexError) (f : A → Result B FromHexError) (y : B) → (r then f) ≡ Ok y → (x : A) × (r ≡ Ok x) × (f x ≡ Ok y)
-bind_ok (Ok x) f y h = (x, refl, h)
-bind_ok (Err e) f y h = absurd cc
-
-abbrev fine : {A : Type 0} → A → Result A FromHexError
-fine x = Ok x
-
-fine_is : {A : Type 0} (x y : A) → fine x ≡ Ok y → x ≡ y
-fine_is x y e = cc
 
 record AreBytes (w bs : List ℕ) : Type 0 where
   text : w ≡ encode_lower bs
   small : AllByRecursion (λ b. b < 2 ^ 8) bs
 
-pair_takes : (i a b v : ℕ) → is_lower_digit a ≡ true → is_lower_digit b ≡ true → pair_value a b i ≡ Ok v → (slice_index lower_digits (v / 16) ≡ a) × (slice_index lower_digits (v % 16) ≡ b) × (v < 2 ^ 8)
-pair_takes i a b v la lb e =
-    let h = bind_ok (value_at a i) _ v e in
-    let l = bind_ok (value_at b (i + 1)) _ v h.2 in
-    let whole : h.0 * 16 + l.0 ≡ v = fine_is (h.0 * 16 + l.0) v l.2 in
-    let ha = value_is a i h.0 (hex_digit_value a) h.1 in
-    let hb = value_is b (i + 1) l.0 (hex_digit_value b) l.1 in
-    let da = digit_takes a la in
-    let db = digit_takes b lb in
+pair_takes : (a b v : ℕ) → byte_in a b ≡ Some v → (slice_index lower_digits (v / 16) ≡ a) × (slice_index lower_digits (v % 16) ≡ b) × (v < 2 ^ 8)
+pair_takes a b v e =
+    let h = bind_some (digit_in a) _ v e in
+    let l = bind_some (digit_in b) _ v h.2 in
+    let da = digit_takes a h.0 h.1 in
+    let db = digit_takes b l.0 l.1 in
     let fa = da.1 in
     let fb = db.1 in
-    let front : v / 16 ≡ h.0 = ap (λ (n : ℕ). n / 16) (sym whole) ∙ div-mul-add h.0 16 l.0 (omega arith) in
-    let back : v % 16 ≡ l.0 = ap (λ (n : ℕ). n % 16) (sym whole) ∙ mod-mul-add h.0 16 l.0 (omega arith) in
-    (ap (slice_index lower_digits) (front ∙ ha) ∙ da.0, ap (slice_index lower_digits) (back ∙ hb) ∙ db.0, omega arith)
+    let whole : h.0 * 16 + l.0 ≡ v = some_is (h.0 * 16 + l.0) v l.2 in
+    let front : v / 16 ≡ h.0 = ap (λ (n : ℕ). n / 16) (sym whole) ∙ div-mul-add h.0 16 l.0 fb in
+    let back : v % 16 ≡ l.0 = ap (λ (n : ℕ). n % 16) (sym whole) ∙ mod-mul-add h.0 16 l.0 fb in
+    (ap (slice_index lower_digits) front ∙ da.0, ap (slice_index lower_digits) back ∙ db.0, omega arith)
 
-pairs_take : (i : ℕ) (w bs : List ℕ) → are_lower_digits w ≡ true → decode_pairs i w ≡ Ok bs → AreBytes w bs
-unfolding decode_pairs encode_with are_lower_digits
-pairs_take i [] bs lower e = let same : [] ≡ bs = fine_is [] bs e in subst (λ (x : List ℕ). AreBytes [] x) same (record { text = refl; small = tt })
-pairs_take i (a ∷ []) bs lower e = absurd cc
-pairs_take i (a ∷ b ∷ rest) bs lower e =
-    let p = and_parts (is_lower_digit a) (are_lower_digits (b ∷ rest)) lower in
-    let q = and_parts (is_lower_digit b) (are_lower_digits rest) p.1 in
-    let v = bind_ok (pair_value a b i) _ bs e in
-    let vs = bind_ok (decode_pairs (i + 2) rest) _ bs v.2 in
-    let t = pair_takes i a b v.0 p.0 q.0 v.1 in
-    let others = pairs_take (i + 2) rest vs.0 q.1 vs.1 in
-    subst (λ (x : List ℕ). AreBytes (a ∷ b ∷ rest) x) (fine_is (v.0 ∷ vs.0) bs vs.2)
+pairs_take : (w bs : List ℕ) → pairs_in w ≡ Some bs → AreBytes w bs
+unfolding pairs_in encode_with
+pairs_take [] bs e = subst (λ (x : List ℕ). AreBytes [] x) (some_is [] bs e) (record { text = refl; small = tt })
+pairs_take (a ∷ []) bs e = absurd cc
+pairs_take (a ∷ b ∷ rest) bs e =
+    let v = bind_some (byte_in a b) _ bs e in
+    let vs = bind_some (pairs_in rest) _ bs v.2 in
+    let t = pair_takes a b v.0 v.1 in
+    let others = pairs_take rest vs.0 vs.1 in
+    subst (λ (x : List ℕ). AreBytes (a ∷ b ∷ rest) x) (some_is (v.0 ∷ vs.0) bs vs.2)
     (record { text = rw (t.0, t.1) (ap (λ (r : List ℕ). a ∷ b ∷ r) others.text); small = (t.2, others.small) })
 
 pub record AreBytesIn (n : ℕ) (w bs : List ℕ) : Type 0 where
@@ -237,31 +241,27 @@ pub record AreBytesIn (n : ℕ) (w bs : List ℕ) : Type 0 where
   pub count : length bs ≡ n
   pub small : AllByRecursion (λ b. b < 2 ^ 8) bs
 
-decoded_is : (r : Result (List ℕ) FromHexError) (bs : List ℕ) → decoded r ≡ Some bs → r ≡ Ok bs
-decoded_is (Ok x) bs e = ap Ok (some_is x bs e)
-decoded_is (Err e) bs h = absurd cc
-
 pub bytes_take : (n : ℕ) (w bs : List ℕ) → bytes_in n w ≡ Some bs → AreBytesIn n w bs
 bytes_take n w bs e =
-    elim (chosen (is_hex n n w) (decoded (decode_sized w n)) None (Some bs) e) [
+    elim (chosen (eqb (length w) (2 * n)) (pairs_in w) None (Some bs) e) [
       | inl h ↦
-          let p = and_parts (eqb (length w % 2) 0 && leb n (length w / 2) && leb (length w / 2) n) (are_lower_digits w) h.0 in
-          let q = and_parts (eqb (length w % 2) 0 && leb n (length w / 2)) (leb (length w / 2) n) p.0 in
-          let r = and_parts (eqb (length w % 2) 0) (leb n (length w / 2)) q.0 in
-          let even = eqb-true (length w % 2) 0 r.0 in
-          let low = leb-true n (length w / 2) r.1 in
-          let high = leb-true (length w / 2) n q.1 in
-          let half : length w / 2 ≡ n = omega arith in
-          let t = pairs_take 0 w bs p.1 (sym (decode_sized-pairs w n even half) ∙ decoded_is (decode_sized w n) bs h.1) in
+          let t = pairs_take w bs h.1 in
           let long = ap length t.text ∙ length-encode_with lower_digits bs in
+          let size = eqb-true (length w) (2 * n) h.0 in
           record { text = t.text; count = omega arith; small = t.small }
       | inr h ↦ absurd cc
     ]
 
-are_bytes : (bs : List ℕ) → AllByRecursion (λ b. b < 2 ^ 8) bs → IsBytes bs
-are_bytes [] h i = omega arith
-are_bytes (b ∷ bs) h zero = let first = h.0 in omega arith
-are_bytes (b ∷ bs) h (suc i) = are_bytes bs h.1 i
+pairs_again : (bs : List ℕ) → AllByRecursion (λ b. b < 2 ^ 8) bs → pairs_in (encode_lower bs) ≡ Some bs
+unfolding pairs_in encode_with
+pairs_again [] small = refl
+pairs_again (b ∷ bs) small =
+    let first = small.0 in
+    let whole : b / 16 * 16 + b % 16 ≡ b = omega arith in
+    bind_step (byte_in (slice_index lower_digits (b / 16)) (slice_index lower_digits (b % 16))) _ b _
+    (bind_step (digit_in (slice_index lower_digits (b / 16))) _ (b / 16) _ (digit_read (b / 16) (omega arith))
+    (bind_step (digit_in (slice_index lower_digits (b % 16))) _ (b % 16) _ (digit_read (b % 16) (omega arith)) (ap (λ (v : ℕ). Some v) whole)))
+    (bind_step (pairs_in (encode_lower bs)) _ bs _ (pairs_again bs small.1) refl)
 
 lower_again : (bs : List ℕ) → AllByRecursion (λ b. b < 2 ^ 8) bs → are_lower_digits (encode_lower bs) ≡ true
 unfolding encode_with are_lower_digits
@@ -280,8 +280,7 @@ hex_again low high bs l h small =
 pub bytes_again : (n : ℕ) (bs : List ℕ) → length bs ≡ n → AllByRecursion (λ b. b < 2 ^ 8) bs → bytes_in n (encode_lower bs) ≡ Some bs
 bytes_again n bs count small =
     let long = length-encode_with lower_digits bs in
-    let read : decode_sized (encode_lower bs) n ≡ Ok bs = decode_sized-pairs (encode_lower bs) n (omega arith) (omega arith) ∙ decode_pairs-encode_with lower_digits IsDigits-lower_digits 0 bs (are_bytes bs small) in
-    rw (hex_again n n bs (omega arith) (omega arith) small) (ap decoded read)
+    rw (eq-eqb (length (encode_lower bs)) (2 * n) (omega arith)) (pairs_again bs small)
 
 lower_plain : (w : List ℕ) → are_lower_digits w ≡ true → IsPlain w
 unfolding are_lower_digits
@@ -371,3 +370,68 @@ op_plain Read = refl
 op_plain Compare = refl
 op_plain WriteZeroes = refl
 op_plain Verify = refl
+
+-- ---- reading pairs of digits one after the other
+
+abbrev pub with_front : List ℕ → Option (List ℕ) → Option (List ℕ)
+with_front front read = read >>= λ bs. Some (front ++ bs)
+
+-- i bytes are read, and these pairs are left
+pub record AreFilled (w : List ℕ) (n i : ℕ) (out rest : List ℕ) : Type 0 where
+  pub left : length rest + 2 * i ≡ 2 * n
+  pub long : length out ≡ n
+  pub so_far : with_front (take i out) (pairs_in rest) ≡ pairs_in w
+
+nothing_before : (read : Option (List ℕ)) → with_front [] read ≡ read
+nothing_before None = refl
+nothing_before (Some bs) = refl
+
+pub none_filled : (w out : List ℕ) (n : ℕ) → length w ≡ 2 * n → length out ≡ n → AreFilled w n 0 out w
+none_filled w out n size long = record { left = omega (arith, size); long = long; so_far = nothing_before (pairs_in w) }
+
+one_before : (front : List ℕ) (v : ℕ) (read : Option (List ℕ)) → with_front front (read >>= λ bs. Some (v ∷ bs)) ≡ with_front (front ++ v ∷ []) read
+one_before front v None = refl
+one_before front v (Some bs) = ap (λ (t : List ℕ). Some t) (sym (append_assoc front (v ∷ []) bs))
+
+pub one_filled : (w : List ℕ) (n i : ℕ) (out : List ℕ) (a b : ℕ) (rest : List ℕ) (v : ℕ) → i < n → byte_in a b ≡ Some v → AreFilled w n i out (a ∷ b ∷ rest) → AreFilled w n (i + 1) (set out i v) rest
+unfolding pairs_in
+one_filled w n i out a b rest v lt e f =
+    let left = f.left in
+    let long = f.long in
+    record {
+      left = omega (arith, left);
+      long = length-set out i v ∙ long;
+      so_far = ap (λ (t : List ℕ). with_front t (pairs_in rest)) (take_more_set out i v (omega (arith, long))) ∙ sym (one_before (take i out) v (pairs_in rest))
+          ∙ sym (ap (λ (r : Option ℕ). with_front (take i out) (r >>= λ byte. pairs_in rest >>= λ bs. Some (byte ∷ bs))) e) ∙ f.so_far;
+    }
+
+pub byte_fails : (w : List ℕ) (n i : ℕ) (out : List ℕ) (a b : ℕ) (rest : List ℕ) → byte_in a b ≡ None → length w ≡ 2 * n → AreFilled w n i out (a ∷ b ∷ rest) → bytes_in n w ≡ None
+unfolding pairs_in
+byte_fails w n i out a b rest e size f =
+    let none : pairs_in w ≡ None = sym f.so_far ∙ ap (λ (r : Option ℕ). with_front (take i out) (r >>= λ byte. pairs_in rest >>= λ bs. Some (byte ∷ bs))) e in
+    rw (eq-eqb (length w) (2 * n) size) none
+
+pub all_filled : (w : List ℕ) (n i : ℕ) (out rest : List ℕ) → n ≤ i → length w ≡ 2 * n → AreFilled w n i out rest → bytes_in n w ≡ Some out
+unfolding pairs_in
+all_filled w n i out rest le size f =
+    let left = f.left in
+    let long = f.long in
+    let none : rest ≡ [] = nil_from_length rest (omega arith) in
+    let all : take i out ≡ out = take_all i out (omega (arith, long)) in
+    rw (eq-eqb (length w) (2 * n) size)
+    (sym f.so_far ∙ ap (λ (t : List ℕ). with_front (take i out) (pairs_in t)) none ∙ ap (λ (t : List ℕ). Some t) (append-nil (take i out) ∙ all))
+
+pub other_size : (w : List ℕ) (n : ℕ) → (length w ≡ 2 * n → ⊥) → bytes_in n w ≡ None
+other_size w n other = rw (ne_eqb (length w) (2 * n) other) refl
+
+-- the first two digits stand apart
+pairs_first : (rest : List ℕ) → 2 ≤ length rest → rest ≡ get_or rest 0 0 ∷ get_or rest 1 0 ∷ take (length rest - 2) (drop 2 rest)
+pairs_first [] h = absurd (omega arith)
+pairs_first (a ∷ []) h = absurd (omega arith)
+pairs_first (a ∷ b ∷ rest) h = ap (λ (t : List ℕ). a ∷ b ∷ t) (sym (take_all (length (a ∷ b ∷ rest) - 2) rest (omega arith)))
+
+pub next_filled : (w : List ℕ) (n i : ℕ) (out rest : List ℕ) (v : ℕ) → i < n → 2 ≤ length rest → byte_in (get_or rest 0 0) (get_or rest 1 0) ≡ Some v → AreFilled w n i out rest → AreFilled w n (i + 1) (set out i v) (take (length rest - 2) (drop 2 rest))
+next_filled w n i out rest v lt two e f = one_filled w n i out (get_or rest 0 0) (get_or rest 1 0) (take (length rest - 2) (drop 2 rest)) v lt e (subst (λ (t : List ℕ). AreFilled w n i out t) (pairs_first rest two) f)
+
+pub next_fails : (w : List ℕ) (n i : ℕ) (out rest : List ℕ) → 2 ≤ length rest → byte_in (get_or rest 0 0) (get_or rest 1 0) ≡ None → length w ≡ 2 * n → AreFilled w n i out rest → bytes_in n w ≡ None
+next_fails w n i out rest two e size f = byte_fails w n i out (get_or rest 0 0) (get_or rest 1 0) (take (length rest - 2) (drop 2 rest)) e size (subst (λ (t : List ℕ). AreFilled w n i out t) (pairs_first rest two) f)

@@ -1,7 +1,5 @@
-use Rattle.std.specs.Prelude.{◌≡◌, ℕ, ◌+◌, ◌-◌, ◌*◌, ◌/◌, ◌%◌, ◌^◌, ◌&&◌, ◌||◌, Bool, true, false, List, [], ◌∷◌, length, codes, Option, Some, None, is_some, Result, Ok, Err, nat_le, nat_lt, ◌==◌, if◌then◌else◌}
+use Rattle.std.specs.Prelude.{◌≡◌, ℕ, ◌+◌, ◌-◌, ◌*◌, ◌/◌, ◌%◌, ◌^◌, ◌&&◌, ◌||◌, Bool, true, false, List, [], ◌∷◌, length, codes, Option, Some, None, is_some, nat_le, nat_lt, ◌==◌, if◌then◌else◌}
 use Rattle.std.specs.Str.{bytes_eq}
-use Rattle.hex.specs.Hex.{decode_sized}
-use Rattle.hex.specs.declared.error.FromHexError.{FromHexError}
 use Rattle.nvm_values.specs.declared.op.Op.{Op}
 use Rattle.nvm_values.specs.declared.op.Op.TheVariants.{Flush, Write, Read, Compare, WriteZeroes, Verify}
 use Rattle.script.specs.declared.form.Piece.{Piece}
@@ -101,13 +99,28 @@ are_lower_digits (c ∷ cs) = is_lower_digit c && are_lower_digits cs
 abbrev pub is_hex : ℕ → ℕ → List ℕ → Bool
 is_hex low high w = length w % 2 == 0 && nat_le low (length w / 2) && nat_le (length w / 2) high && are_lower_digits w
 
-abbrev pub decoded : Result (List ℕ) FromHexError → Option (List ℕ)
-decoded (Ok bytes) = Some bytes
-decoded (Err e) = None
+-- the value of a digit
+abbrev pub digit_in : ℕ → Option ℕ
+digit_in c = if is_digit c then Some (c - 48) else if nat_le 97 c && nat_le c 102 then Some (c - 87) else None
+
+abbrev pub byte_in : ℕ → ℕ → Option ℕ
+byte_in high low = do
+  h ← digit_in high
+  l ← digit_in low
+  Some (h * 16 + l)
+
+-- the bytes of pairs of digits
+unfoldable pub pairs_in : List ℕ → Option (List ℕ)
+pairs_in [] = Some []
+pairs_in (high ∷ []) = None
+pairs_in (high ∷ low ∷ rest) = do
+  byte ← byte_in high low
+  bytes ← pairs_in rest
+  Some (byte ∷ bytes)
 
 -- so many bytes
 abbrev pub bytes_in : ℕ → List ℕ → Option (List ℕ)
-bytes_in n w = if is_hex n n w then decoded (decode_sized w n) else None
+bytes_in n w = if length w == 2 * n then pairs_in w else None
 
 abbrev pub op_in : List ℕ → Option Op
 op_in w =

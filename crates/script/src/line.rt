@@ -3,19 +3,20 @@
 ghost use Rattle.std.specs.Prelude.{◌≡◌, ℕ};
 ghost use Rattle.script.specs.Words.{Reads, cut_at, words_of, next, last};
 
+use memchr::memchr;
 use std::marker::Model;
 
 /// What stands before the first byte `end`, and what stands after it.
 pub fn cut(text: &[u8], end: u8) -> Option<(&[u8], &[u8])>
     ensures { Reads (λ x. (x.0.now, x.1.now)) result (cut_at end text.now) }
 {
-    for (at, byte) in text.iter().enumerate() {
-        if *byte == end {
+    match memchr(end, text) {
+        None => None,
+        Some(at) => {
             let (front, rest) = text.split_at(at);
-            return Some((front, &rest[1..]));
+            Some((front, &rest[1..]))
         }
     }
-    None
 }
 
 /// The words of a line that are left. A space ends a word. Contracts see their list.

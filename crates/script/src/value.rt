@@ -1,9 +1,8 @@
 //! What a word is read as: a number, a data page, bytes, or a command.
 
 ghost use Rattle.std.specs.Prelude.{◌≡◌, ◌<◌, ◌≤◌, IfSome, length};
-ghost use Rattle.script.specs.Words.{Reads, with_digit, digits_on, number_in, ranged_in, page_in, option_in, bytes_in, op_in};
+ghost use Rattle.script.specs.Words.{Reads, with_digit, digits_on, number_in, ranged_in, page_in, option_in, digit_in, byte_in, bytes_in, op_in};
 
-use crate::form::is_hex;
 use nvm_values::Op;
 
 fn with_digit(n: u64, digit: u8) -> Option<u64>
@@ -71,17 +70,46 @@ pub fn option_in(word: &[u8], pages: u16) -> Option<Option<u16>>
     Some(Some(page))
 }
 
+/// The value of a digit in lower case.
+fn digit(code: u8) -> Option<u8>
+    ensures value { result ≡ digit_in code }
+    ensures high { IfSome result (λ n. n < 16) }
+{
+    match code {
+        b'0'..=b'9' => Some(code - b'0'),
+        b'a'..=b'f' => Some(code - b'a' + 10),
+        _ => None,
+    }
+}
+
+fn byte(high: u8, low: u8) -> Option<u8>
+    ensures { result ≡ byte_in high low }
+{
+    let high = digit(high)?;
+    let low = digit(low)?;
+    Some(high * 16 + low)
+}
+
 /// Fills `out` with the bytes of a word that has two digits for each of them.
 pub fn bytes(word: &[u8], out: &mut [u8]) -> Option<()>
+    requires { length out.old ≤ 64 }
     ensures { Reads (λ u. out.new) result (bytes_in (length out.old) word.now) }
 {
-    if !is_hex(word, out.len(), out.len()) {
+    if word.len() != 2 * out.len() {
         return None;
     }
-    match hex::decode_to_slice(word, out) {
-        Ok(()) => Some(()),
-        Err(_) => None,
+    let mut rest = word;
+    for i in 0..out.len() {
+        let [high, low, after @ ..] = rest else {
+            return None;
+        };
+        let Some(byte) = byte(*high, *low) else {
+            return None;
+        };
+        out[i] = byte;
+        rest = after;
     }
+    Some(())
 }
 
 /// A command's word.
