@@ -17,4 +17,3 @@ pub use script::Why;
 pub use status::Status;
 pub use top::nvmigrate;
 pub use words::geometry;
-

@@ -56,7 +56,8 @@ fn a_block_is_copied_again(rt: HostRuntime) -> Result<(), Fail> {
         ],
     );
     assert!(&rt; core.source() == core.destination());
-    assert!(&rt; core.source()[0] == [0x5a; 512] && core.source()[1] == [0; 512]);
+    assert!(&rt; core.source().first().copied() == Some([0x5a; 512]));
+    assert!(&rt; core.source().get(1).copied() == Some([0; 512]));
     Ok(())
 }
 

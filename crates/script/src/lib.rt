@@ -67,4 +67,3 @@ pub fn parse_front(alloc: Global, text: &[u8]) -> Result<(Script, usize), ParseR
         Err(refusal) => Err(refusal),
     }
 }
-

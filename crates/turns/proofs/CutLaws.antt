@@ -127,8 +127,8 @@ one_kind : (s : Script) (kind : Kind) (k : ℕ) (lane : Lane) (xs ys rest behind
     (length xs < length ys → HasNext s kind k a → ⊥) → (length ys < length xs → HasNext s kind k b → ⊥) → IsOneWay xs ys rest behind a b
 one_kind s kind k lane xs ys rest behind a b are_xs to_a are_ys to_b same not_a not_b =
     let front = same_front xs ys rest behind same
-        (λ shorter. not_a shorter (has_next s kind k lane xs ys rest behind a b to_a are_ys to_b same shorter))
-        (λ longer. not_b longer (has_next s kind k lane ys xs behind rest b a to_b are_xs to_a (sym same) longer)) in
+    (λ shorter. not_a shorter (has_next s kind k lane xs ys rest behind a b to_a are_ys to_b same shorter))
+    (λ longer. not_b longer (has_next s kind k lane ys xs behind rest b a to_b are_xs to_a (sym same) longer)) in
     record {
       events_are = front.front;
       behind_are = front.behind;
@@ -196,9 +196,9 @@ one_plan s k lane xs ys rest behind a b p q same =
     let cut = sym (three_behind p.reaps p.acts p.fetches rest xs p.events_are) ∙ same ∙ three_behind q.reaps q.acts q.fetches behind ys q.events_are in
     let reaps = one_reaps s k lane p.reaps q.reaps (p.acts ++ (p.fetches ++ rest)) (q.acts ++ (q.fetches ++ behind)) p.reaped q.reaped p.reaping q.reaping cut in
     let acts = one_acts s k p.reaped p.acts q.acts (p.fetches ++ rest) (q.fetches ++ behind) p.acted q.acted p.acting
-        (subst (λ (l : Lane). ActsOn s k l q.acts q.acted) reaps.end_is q.acting) (sym reaps.behind_are) in
+    (subst (λ (l : Lane). ActsOn s k l q.acts q.acted) reaps.end_is q.acting) (sym reaps.behind_are) in
     let fetches = one_fetches s k p.acted p.fetches q.fetches rest behind a b p.fetching
-        (subst (λ (l : Lane). FetchesOn s k l q.fetches b) acts.end_is q.fetching) (sym acts.behind_are) in
+    (subst (λ (l : Lane). FetchesOn s k l q.fetches b) acts.end_is q.fetching) (sym acts.behind_are) in
     record {
       events_are = q.events_are ∙ (rw (reaps.events_are, acts.events_are, fetches.events_are) (sym p.events_are));
       behind_are = fetches.behind_are;
@@ -241,7 +241,7 @@ no_piece_left : (s : Script) (e : Line) (blocks : List (List ℕ)) (lane : Lane)
 no_piece_left s (line.Piece k cid first count outcome digest) blocks lane new_blocks new none is step =
     let there = all_at (λ (c : Command). pieces_left s.head.shelf c ≡ 0) lane.running step.place step.command none (slice_get_within lane.running step.place step.command step.at_place) in
     some_left s.head.shelf step.command step.work step.work_is step.left
-        (subst (λ (c : Command). pieces_left s.head.shelf c ≡ 0) (get_or_from_slice_get lane.running step.place step.command step.command step.at_place) there)
+    (subst (λ (c : Command). pieces_left s.head.shelf c ≡ 0) (get_or_from_slice_get lane.running step.place step.command step.command step.at_place) there)
 no_piece_left s e blocks lane new_blocks new none is step = absurd is
 
 no_piece : (s : Script) (w : World) (xs ys rest others : List Line) (a b : World) → Works s w xs a → Works s w ys b → xs ++ rest ≡ ys ++ others → length xs < length ys → ⊥
@@ -274,9 +274,9 @@ one_turn s w xs ys rest behind a b p q same =
     let cut = sym (three_behind p.plan p.pieces p.posts rest xs p.events_are) ∙ same ∙ three_behind q.plan q.pieces q.posts behind ys q.events_are in
     let plan = one_in_lanes (Plans s) (one_plan s) 1 w.lanes p.plan q.plan (p.pieces ++ (p.posts ++ rest)) (q.pieces ++ (q.posts ++ behind)) p.planned q.planned p.planning q.planning cut in
     let pieces = one_works s (record { blocks = w.blocks; lanes = p.planned }) p.pieces q.pieces (p.posts ++ rest) (q.posts ++ behind) p.worked q.worked p.working
-        (subst (λ (ls : List Lane). Works s (record { blocks = w.blocks; lanes = ls }) q.pieces q.worked) plan.end_is q.working) (sym plan.behind_are) in
+    (subst (λ (ls : List Lane). Works s (record { blocks = w.blocks; lanes = ls }) q.pieces q.worked) plan.end_is q.working) (sym plan.behind_are) in
     let posts = one_in_lanes (PostsAll s) (one_posts s) 1 p.worked.lanes p.posts q.posts rest behind a.lanes b.lanes p.posting
-        (subst (λ (v : World). InLanes (PostsAll s) 1 v.lanes q.posts b.lanes) pieces.end_is q.posting) (sym pieces.behind_are) in
+    (subst (λ (v : World). InLanes (PostsAll s) 1 v.lanes q.posts b.lanes) pieces.end_is q.posting) (sym pieces.behind_are) in
     let blocks : b.blocks ≡ a.blocks = q.blocks ∙ ap (λ (v : World). v.blocks) pieces.end_is ∙ sym p.blocks in
     record {
       events_are = q.events_are ∙ (rw (plan.events_are, pieces.events_are, posts.events_are) (sym p.events_are));

@@ -71,8 +71,8 @@ one_piece : (s : Script) (cid first count : ℕ) (outcome : Outcome) (digest : O
     (other_blocks ≡ new_blocks) × (other ≡ new)
 one_piece s cid first count outcome digest blocks lane new_blocks new other_blocks other a b =
     let place : b.place ≡ a.place =
-        one_place (λ (c : Command). pieces_left s.head.shelf c ≡ 0) lane.running a.place b.place a.command b.command a.earlier b.earlier a.at_place b.at_place
-            (some_left s.head.shelf a.command a.work a.work_is a.left) (some_left s.head.shelf b.command b.work b.work_is b.left) in
+    one_place (λ (c : Command). pieces_left s.head.shelf c ≡ 0) lane.running a.place b.place a.command b.command a.earlier b.earlier a.at_place b.at_place
+    (some_left s.head.shelf a.command a.work a.work_is a.left) (some_left s.head.shelf b.command b.work b.work_is b.left) in
     let at_place : slice_get lane.running b.place ≡ Some a.command = rw place a.at_place in
     let command : b.command ≡ a.command = one_value b.at_place at_place in
     let work_is : b.command.work ≡ Some a.work = rw command a.work_is in
