@@ -37,7 +37,8 @@ impl LineBuf {
 
     /// The bytes of the line.
     pub fn bytes(&self) -> &[u8]
-        ensures { result.now ≡ self.now }
+        ensures value { result.now ≡ self.now }
+        ensures short { length result.now ≤ 192 }
     {
         self.bytes.as_slice()
     }

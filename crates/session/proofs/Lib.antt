@@ -1,18 +1,1 @@
-pub mod AllLanesLemmas
-pub mod BetweenLemmas
-pub mod CommandLemmas
-pub mod CopyLemmas
-pub mod FramedLemmas
-pub mod FrontLemmas
-pub mod LaneLemmas
-pub mod LanePartLemmas
-pub mod OrderLemmas
-pub mod PieceLemmas
-pub mod RangeLemmas
-pub mod RunLemmas
-pub mod ShelvesLemmas
-pub mod StopLemmas
-pub mod TextLemmas
-pub mod TurnLemmas
-pub mod TurnedLemmas
-pub mod WorkLemmas
+mod WaitingLemmas

@@ -1,7 +1,6 @@
-pub mod LaneParts
 pub mod Lanes
-pub mod Range
-pub mod Run
-pub mod Side
 pub mod Shelves
-pub mod Work
+pub mod Place
+pub mod Sides
+pub mod Copies
+pub mod Waiting

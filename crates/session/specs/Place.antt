@@ -1,4 +1,4 @@
-use Rattle.std.specs.Prelude.{◌≡◌, ℕ, ◌-◌, ◌*◌, ◌+◌, ◌≤◌, Bool, List, [], ◌∷◌, length, map, slice_index_or}
+use Rattle.std.specs.Prelude.{◌≡◌, ℕ, ◌-◌, ◌*◌, ◌+◌, ◌≤◌, Bool, List, [], ◌∷◌, length, map, slice_index_or, vec_capacity}
 use Rattle.nvm_model.specs.declared.script.Script.{Script}
 use Rattle.nvm_model.specs.Ring.{places_between}
 use Rattle.nvm_model.specs.ScriptText.{IsScript}
@@ -10,6 +10,8 @@ use Rattle.guest_ram.specs.Window.{WindowState}
 use Rattle.nvm_blocks.specs.Namespace.{NamespaceState, media_of}
 use Rattle.controller.specs.declared.controller.Phase.TheVariants.{Running}
 use Rattle.controller.specs.Pair.{ControllerState, PairState, pair_of}
+use Rattle.std.specs.declared.vec.Vec.{Vec}
+use Rattle.hall.specs.Plan.{PlanState}
 use Rattle.turns.specs.Run.{Here, IsTurn, Task, TurnDone, turn_lines}
 use Rattle.turns.specs.Run.Order.{Serial}
 use Rattle.session.specs.declared.lane_run.LaneRun.{LaneRun}
@@ -71,6 +73,12 @@ pub record IsReady {M : Type 0} (s : Script) (m : Machine M) : Type 0 where
   pub quiet : AreQuiet s m.runs m.place.controller
   pub stood : Here M
   pub stands : StandsOn s m stood
+
+-- room for the largest turn
+pub record HasRoom {A : Type 0} (s : Script) (plan : PlanState) (events : Vec Line A) : Type 0 where
+  pub lanes : length plan.lanes ≡ s.head.lanes
+  pub pieces : plan.room ≡ 64 * s.head.burst
+  pub lines : 4608 * s.head.lanes ≤ vec_capacity events
 
 -- every guest has done its acts, and no command of its is under way
 abbrev pub AreAllDone : Script → List LaneRun → Type 0

@@ -3,23 +3,21 @@
 //! that ends complete, and the blocks, the memory and the counts of faults are those of the world that it reaches.
 #![tactic(auto)]
 
-mod cutover;
 mod ending;
 mod lane_run;
 mod lane_script;
-mod lines;
 mod order;
-mod pieces;
-mod plan;
-mod posts;
-mod serial;
+mod place;
 mod session;
+mod text;
 mod turn;
+mod whole;
 
 pub use ending::Ending;
 pub use lane_run::LaneRun;
 pub use lane_script::LaneScript;
 pub use order::Order;
-pub use serial::run;
-pub use session::Session;
+pub use place::Place;
+pub use session::{Next, Session};
 pub use turn::MOST_EVENTS;
+pub use whole::run;

@@ -1,56 +1,116 @@
-ghost use Rattle.std.specs.Prelude.{◌≡◌, ◌-◌, ◌≤◌, ℕ, IfOk, length, slice_index_or};
+ghost use Rattle.std.specs.Prelude.{◌≡◌, ◌-◌, ◌≤◌, ℕ, IfOk, IfSome, length, slice_index_or};
 ghost use Rattle.nvm_model.specs.ScriptText.{IsScript};
 ghost use Rattle.session.specs.declared.lane_run.LaneRun.{LaneRun};
-ghost use Rattle.session.specs.Lanes.{IsNewRun, IsNewSession, IsRunOf, IsSession};
+ghost use Rattle.session.specs.Lanes.{IsNewRun, IsRunOf};
+ghost use Rattle.session.specs.Sides.{IsNewSession, IsNext, turns_ahead};
 
 use crate::lane_run::LaneRun;
 use crate::order::Order;
-use crate::turn::MOST_EVENTS;
-use controller::Controller;
+use crate::text::Text;
+use crate::turn::{MOST_EVENTS, are_all_done};
 use hall::Plan;
 use mig_base::{LaneNo, OutOfMemory};
 use nvm_model::{Line, Script};
 use std::alloc::Global;
+use std::marker::Model;
+use turns::{RunPhase, Side};
+
+mod stages;
 
 /// The most pieces that a command has.
 const MOST_PIECES: usize = 64;
 
-/// The guests and the controller of a script's lanes, and room for a turn: what goes over where the guests are moved.
+/// What goes where the guests go: the script, the guests of its lanes, the order of pieces, and room for a turn and for text.
 #[derive(Drop)]
 pub struct Session {
-    /// Lane 1 first.
-    pub lanes: Vec<LaneRun>,
-    pub controller: Controller,
-    pub plan: Plan,
-    pub order: Order,
-    /// The events of a turn.
-    pub events: Vec<Line>,
+    script: Script,
+    // Lane 1 first.
+    runs: Vec<LaneRun>,
+    order: Order,
+    // How many turns come before a migration that is asked for and wasn't begun.
+    ahead: Option<u32>,
+    phase: RunPhase,
+    side: Side,
+    plan: Plan,
+    // The events of a turn.
+    events: Vec<Line>,
+    text: Text,
+}
+
+impl Model for Session {
+    ghost use Rattle.session.specs.Sides.{SessionState};
+    ghost use Rattle.session.specs.Place.{HasRoom};
+
+    ghost Value = { SessionState };
+
+    ghost view = { λ s. record { script = s.script; runs = s.runs.items; order = s.order; ahead = s.ahead; phase = s.phase; side = s.side } };
+
+    ghost invariant = { λ s. HasRoom s.script s.plan s.events };
+}
+
+/// What comes next in a run.
+#[derive(Clone, Copy)]
+pub enum Next {
+    /// A turn.
+    Turn,
+    /// The migration that the script asks for.
+    Move,
+    /// The end.
+    End,
 }
 
 impl Session {
-    /// A session of a script, of which nothing was done, with room for the largest turn.
+    /// A session of which nothing was done, on the source, with room for the largest turn.
     ///
     /// # Errors
     ///
     /// `OutOfMemory` where there is no memory for it.
-    pub fn make(alloc: Global, script: &Script) -> Result<Session, OutOfMemory>
-        requires { IsScript script.now }
-        ensures session { IfOk result (IsSession script.now) }
-        ensures new { IfOk result (IsNewSession script.now) }
+    pub fn make(alloc: Global, script: Script) -> Result<Session, OutOfMemory>
+        requires { IsScript script }
+        ensures { IfOk result (IsNewSession script) }
     {
         let head = &script.head;
         let count = usize::from(head.lanes);
-        let lanes = make_runs(alloc, script)?;
-        let controller = Controller::make(alloc, &head.sets[..count], head.change, head.burst)?;
+        let order = Order::new(head.mix);
+        let ahead = turns_ahead(head.migrate);
         let plan = Plan::make(alloc, head.lanes, MOST_PIECES * head.burst as usize)?;
         let events = Vec::with_capacity(alloc, MOST_EVENTS * count)?;
+        let runs = make_runs(alloc, &script)?;
+        let text = Text::make(alloc)?;
         Ok(Session {
-            lanes,
-            controller,
+            script,
+            runs,
+            order,
+            ahead,
+            phase: RunPhase::New,
+            side: Side::Source,
             plan,
-            order: Order::new(head.mix),
             events,
+            text,
         })
+    }
+
+    /// Whether a turn, the migration or the end comes next.
+    pub fn next(&self) -> Next
+        ensures { IsNext self.now result }
+    {
+        let complete = are_all_done(&self.script, &self.runs);
+        match self.ahead {
+            Some(turns) if turns == 0 || complete => Next::Move,
+            _ if complete => Next::End,
+            _ => Next::Turn,
+        }
+    }
+}
+
+/// How many turns come before a migration that is asked for before the turn with a number.
+fn turns_ahead(migrate: Option<u32>) -> Option<u32>
+    requires { IfSome migrate (λ turn. 1 ≤ turn) }
+    ensures { result ≡ turns_ahead migrate }
+{
+    match migrate {
+        Some(turn) => Some(turn - 1),
+        None => None,
     }
 }
 
@@ -58,8 +118,10 @@ impl Session {
 fn make_runs(alloc: Global, script: &Script) -> Result<Vec<LaneRun>, OutOfMemory>
     requires { IsScript script.now }
     ensures count { IfOk result (λ runs. length runs.items ≡ script.now.head.lanes) }
-    ensures runs { IfOk result (λ runs. (k : ℕ) (d : LaneRun) → 1 ≤ k → k ≤ script.now.head.lanes → IsRunOf script.now k (slice_index_or runs.items (k - 1) d)) }
-    ensures new { IfOk result (λ runs. (k : ℕ) (d : LaneRun) → 1 ≤ k → k ≤ script.now.head.lanes → IsNewRun script.now k (slice_index_or runs.items (k - 1) d)) }
+    ensures runs { IfOk result (λ runs. (k : ℕ) (d : LaneRun) → 1 ≤ k → k ≤ script.now.head.lanes
+        → IsRunOf script.now k (slice_index_or runs.items (k - 1) d)) }
+    ensures new { IfOk result (λ runs. (k : ℕ) (d : LaneRun) → 1 ≤ k → k ≤ script.now.head.lanes
+        → IsNewRun script.now k (slice_index_or runs.items (k - 1) d)) }
 {
     let mut runs = Vec::with_capacity(alloc, usize::from(script.head.lanes))?;
     for at in 0..script.head.lanes {

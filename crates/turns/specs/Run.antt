@@ -20,6 +20,10 @@ use Rattle.nvm_model.specs.Shelf.{digest_bytes}
 use Rattle.nvm_model.specs.Text.{text_of}
 use Rattle.nvm_model.specs.Trace.{IsPieceDone, piece_calls}
 use Rattle.nvm_model.specs.Turn.{InLanes, Plans, PostsAll, left_in, next_lane}
+use Rattle.turns.specs.declared.run.RunPhase.{RunPhase}
+use Rattle.turns.specs.declared.run.RunPhase.TheVariants.{New, Running, Suspended, Over}
+use Rattle.turns.specs.declared.run.Side.{Side}
+use Rattle.turns.specs.declared.run.Side.TheVariants.{Source, Destination}
 use Rattle.nvm_model.specs.World.{Lane, World, lane_of, start_world, window_pages}
 
 -- A run: guests over the media of one side, turn after turn, and their move to the other side. It is a list of stages from
@@ -182,26 +186,26 @@ puts_of shelf c = of c.ended
 abbrev pub AllCopied : List Copy → Type 0
 AllCopied copies = AllByRecursion (λ (c : Copy). c.ended ≡ Copied) copies
 
--- so many blocks were copied, each once, ascending
-pub record CopiesAll (blocks : ℕ) (copies : List Copy) : Type 0 where
-  pub each : map (λ (c : Copy). c.block) copies ≡ range_with_len 0 blocks
+-- these blocks were copied, each once and in their order
+pub record CopiesAll (blocks : List ℕ) (copies : List Copy) : Type 0 where
+  pub each : map (λ (c : Copy). c.block) copies ≡ blocks
   pub copied : AllCopied copies
 
--- the same up to one that a failed call stopped
-pub record CopiesUpTo (blocks : ℕ) (copies : List Copy) : Type 0 where
+-- the first of these blocks were copied, up to one where a call failed
+pub record CopiesUpTo (blocks : List ℕ) (copies : List Copy) : Type 0 where
   pub good : List Copy
   pub last : Copy
+  pub others : List ℕ
   pub copies_are : copies ≡ good ++ last ∷ []
-  pub each : map (λ (c : Copy). c.block) copies ≡ range_with_len 0 (length copies)
-  pub few : length copies ≤ blocks
+  pub each : map (λ (c : Copy). c.block) copies ++ others ≡ blocks
   pub copied : AllCopied good
   pub failed : last.ended ≡ Copied → ⊥
 
--- Stages.
+-- the namespace's blocks, ascending
+abbrev pub all_blocks : Script → List ℕ
+all_blocks s = range_with_len 0 s.head.blocks
 
-pub data Side : Type 0 where
-  Source : Side
-  Destination : Side
+-- Stages.
 
 abbrev pub opposite : Side → Side
 opposite Source = Destination
@@ -227,8 +231,8 @@ lines_of s End = line.End ∷ []
 abbrev pub lines_in : Script → List Stage → List Line
 lines_in s stages = flat_map (lines_of s) stages
 
--- of two lists, the first where the sides are the same
-abbrev pub by_side : Side → Side → List At → List At → List At
+-- of what stands here and there, the one of a side: the first where the guests stand on it
+abbrev pub by_side : {X : Type 0} → Side → Side → X → X → X
 by_side Source Source here there = here
 by_side Source Destination here there = there
 by_side Destination Source here there = there
@@ -245,12 +249,6 @@ calls_at s who End = []
 
 -- Snapshots.
 
-pub data Phase : Type 0 where
-  New : Phase
-  Running : Phase
-  Suspended : Phase
-  Over : Phase
-
 -- the bytes that a sink took, where it tells them, and how many of its calls failed
 pub record SinkState : Type 0 where
   pub taken : Option (List ℕ)
@@ -260,7 +258,7 @@ pub record SinkState : Type 0 where
 -- side and of the other one, the memory that stands on the other one, each lane's window pages, and the sink.
 pub record Snapshot (M : Type 0) : Type 0 where
   pub task : Task
-  pub phase : Phase
+  pub phase : RunPhase
   pub side : Side
   -- whether a migration was begun
   pub tried : Bool
@@ -330,7 +328,7 @@ pub record IsBegin {M : Type 0} (old new : Snapshot M) : Type 0 where
 pub record IsResume {M I : Type 0} (state : M → MediumState I) (moves : I → Step → Bool → I → Type 0) (old : Snapshot M) (side : Side) (copies : List Copy) (new : Snapshot M) : Type 0 where
   pub was : old.phase ≡ Suspended
   pub stood : side ≡ old.side
-  pub copies_all : CopiesAll old.task.script.head.blocks copies
+  pub copies_all : CopiesAll (all_blocks old.task.script) copies
   pub gets : Chain (IsAt state moves) old.at (flat_map (gets_of old.task.script.head.shelf) copies) new.other
   pub puts : Chain (IsAt state moves) old.other (flat_map (puts_of old.task.script.head.shelf) copies) new.at
   pub after : new ≡ record old { phase = Running; side = opposite old.side; at = new.at; other = new.other; left = memory_of old.task.script old.lanes; out = new.out }
@@ -339,7 +337,7 @@ pub record IsResume {M I : Type 0} (state : M → MediumState I) (moves : I → 
 pub record IsGiveUp {M I : Type 0} (state : M → MediumState I) (moves : I → Step → Bool → I → Type 0) (old : Snapshot M) (side : Side) (copies : List Copy) (new : Snapshot M) : Type 0 where
   pub was : old.phase ≡ Suspended
   pub stood : side ≡ old.side
-  pub copies_stop : CopiesUpTo old.task.script.head.blocks copies
+  pub copies_stop : CopiesUpTo (all_blocks old.task.script) copies
   pub gets : Chain (IsAt state moves) old.at (flat_map (gets_of old.task.script.head.shelf) copies) new.at
   pub puts : Chain (IsAt state moves) old.other (flat_map (puts_of old.task.script.head.shelf) copies) new.other
   pub after : new ≡ record old { phase = Running; at = new.at; other = new.other; out = new.out }
@@ -374,12 +372,9 @@ pub record Went {M I : Type 0} (state : M → MediumState I) (moves : I → Step
   pub later : old.out.faults ≤ new.out.faults
   pub rose : failed ≡ true → RisesBy 1 old.out.faults new.out.faults
 
--- the media of one side
+-- the media of one side, and its memory
 abbrev pub media_at : {M : Type 0} → Side → Snapshot M → List M
-media_at who t = of who t.side
-  where
-    of : Side → Side → List M
-    of Source Source = t.at
-    of Source Destination = t.other
-    of Destination Source = t.other
-    of Destination Destination = t.at
+media_at who t = by_side who t.side t.at t.other
+
+abbrev pub memory_at : {M : Type 0} → Side → Snapshot M → List (List (List ℕ))
+memory_at who t = by_side who t.side (memory_of t.task.script t.lanes) t.left

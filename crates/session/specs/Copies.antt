@@ -1,0 +1,42 @@
+use Rattle.std.specs.Prelude.{◌≡◌, ℕ, Bool, true, false, List}
+use Rattle.std.specs.List.{flat_map}
+use Rattle.nvm_model.specs.declared.trace.Step.{Step}
+use Rattle.nvm_model.specs.Chain.{Chain}
+use Rattle.nvm_model.specs.Medium.{IsAt, MediumState}
+use Rattle.nvm_blocks.specs.Namespace.{NamespaceState, block_count, media_of}
+use Rattle.turns.specs.Run.{CopiesAll, CopiesUpTo, Copy, gets_of, puts_of}
+use Rattle.session.specs.Place.{PlaceState}
+use Rattle.session.specs.Shelves.{SameShelves}
+
+-- The copying of blocks from one place to another.
+
+pub record Both (M : Type 0) : Type 0 where
+  pub from : PlaceState M
+  pub to : PlaceState M
+
+abbrev pub both : {M : Type 0} → PlaceState M → PlaceState M → Both M
+both from to = record { from = from; to = to }
+
+-- two places with as many blocks, in shelves of one length
+pub record AreAlike {M : Type 0} (places : Both M) : Type 0 where
+  pub shelf : places.to.namespace.shelf ≡ places.from.namespace.shelf
+  pub blocks : block_count places.to.namespace ≡ block_count places.from.namespace
+
+-- whether these blocks were all copied, or a call failed
+abbrev pub AreEnded : List ℕ → List Copy → Bool → Type 0
+AreEnded blocks copies false = CopiesAll blocks copies
+AreEnded blocks copies true = CopiesUpTo blocks copies
+
+-- beside the media nothing changed
+pub record SamePlace {M : Type 0} (old new : PlaceState M) : Type 0 where
+  pub shelves : SameShelves old.namespace new.namespace
+  pub rest : new ≡ record old { namespace = new.namespace }
+
+-- these blocks were copied by calls of both places' media, up to one where a call failed, and beside these nothing changed
+pub record CopiesTo {M I : Type 0} (state : M → MediumState I) (moves : I → Step → Bool → I → Type 0) (blocks : List ℕ) (old : Both M) (failed : Bool) (new : Both M) : Type 0 where
+  pub copies : List Copy
+  pub gets : Chain (IsAt state moves) (media_of old.from.namespace) (flat_map (gets_of old.from.namespace.shelf) copies) (media_of new.from.namespace)
+  pub puts : Chain (IsAt state moves) (media_of old.to.namespace) (flat_map (puts_of old.from.namespace.shelf) copies) (media_of new.to.namespace)
+  pub ended : AreEnded blocks copies failed
+  pub from : SamePlace old.from new.from
+  pub to : SamePlace old.to new.to

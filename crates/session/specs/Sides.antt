@@ -1,0 +1,158 @@
+use Rattle.std.specs.Prelude.{◌≡◌, ◌⊎◌, ℕ, ◌+◌, ◌-◌, ◌≤◌, Bool, true, false, List, Option, Some, None, map, slice_index_or}
+use Rattle.nvm_model.specs.declared.script.Script.{Script}
+use Rattle.nvm_model.specs.declared.trace.Step.{Step}
+use Rattle.nvm_model.specs.Medium.{MediumState}
+use Rattle.guest_ram.specs.Window.{WindowState}
+use Rattle.nvm_blocks.specs.Namespace.{media_of}
+use Rattle.turns.specs.declared.run.RunPhase.{RunPhase}
+use Rattle.turns.specs.declared.run.RunPhase.TheVariants.{New, Running, Suspended, Over}
+use Rattle.turns.specs.declared.run.Side.{Side}
+use Rattle.turns.specs.declared.run.Side.TheVariants.{Source, Destination}
+use Rattle.turns.specs.Run.{SinkState, Snapshot, Went, here}
+use Rattle.session.specs.declared.ending.Ending.{Ending}
+use Rattle.session.specs.declared.ending.Ending.TheVariants.{Done, GaveUp}
+use Rattle.session.specs.declared.lane_run.LaneRun.{LaneRun}
+use Rattle.session.specs.declared.order.Order.{Order}
+use Rattle.session.specs.declared.session.Next.{Next}
+use Rattle.session.specs.declared.session.Next.TheVariants.{Turn, Move, End}
+use Rattle.nvm_model.specs.Turn.{word_state}
+use Rattle.session.specs.Lanes.{IsNewRun}
+use Rattle.session.specs.Place.{AreRunsOf, AreAllDone, IsReady, Machine, PlaceState, StandsOn, serial}
+
+-- What goes where the guests go: the script, the runs of its lanes, the order of pieces, and where the run is. A migration
+-- is due after so many turns, where one is asked for and wasn't begun.
+pub record SessionState : Type 0 where
+  pub script : Script
+  pub runs : List LaneRun
+  pub order : Order
+  pub ahead : Option ℕ
+  pub phase : RunPhase
+  pub side : Side
+
+-- a session, the place on which it stands, the other one, and the sink
+pub record Sides (M : Type 0) : Type 0 where
+  pub session : SessionState
+  pub at : PlaceState M
+  pub other : PlaceState M
+  pub out : SinkState
+
+abbrev pub sides : {M : Type 0} → SessionState → PlaceState M → PlaceState M → SinkState → Sides M
+sides session at other out = record { session = session; at = at; other = other; out = out }
+
+abbrev pub sink : Option (List ℕ) → ℕ → SinkState
+sink taken faults = record { taken = taken; faults = faults }
+
+-- a session with a place as the machine that does turns
+abbrev pub machine_of : {M : Type 0} → SessionState → PlaceState M → Machine M
+machine_of session place = record { runs = session.runs; order = session.order; place = place }
+
+-- a memory's windows as pages
+abbrev pub pages_of : List WindowState → List (List (List ℕ))
+pages_of windows = map (λ (w : WindowState). w.pages) windows
+
+-- so many turns come before a migration that is asked for and wasn't begun
+abbrev pub IsAhead : {M : Type 0} → Snapshot M → Option ℕ → Type 0
+IsAhead t (Some n) = (t.tried ≡ false) × (t.task.script.head.migrate ≡ Some (t.turns + n + 1))
+IsAhead t None = t.tried ≡ false → t.task.script.head.migrate ≡ None
+
+-- they stand for a run between two of its stages
+pub record StandsAs {M : Type 0} (m : Sides M) (t : Snapshot M) : Type 0 where
+  pub task : t.task ≡ serial m.session.script
+  pub phase : t.phase ≡ m.session.phase
+  pub side : t.side ≡ m.session.side
+  pub ahead : IsAhead t m.session.ahead
+  pub lanes : StandsOn m.session.script (machine_of m.session m.at) (here t)
+  pub other : t.other ≡ media_of m.other.namespace
+  pub left : t.left ≡ pages_of m.other.windows
+  pub out : t.out ≡ m.out
+
+-- from a run between two stages it went on by stages
+pub record GoesTo {M I : Type 0} (state : M → MediumState I) (moves : I → Step → Bool → I → Type 0) (t : Snapshot M) (failed : Bool) (new : Sides M) : Type 0 where
+  pub end : Snapshot M
+  pub went : Went state moves t failed end
+  pub stands : StandsAs new end
+
+-- whatever run they stood for, it went on by stages
+abbrev pub Goes : {M I : Type 0} → (M → MediumState I) → (I → Step → Bool → I → Type 0) → Sides M → Bool → Sides M → Type 0
+Goes {M} state moves old failed new = (t : Snapshot M) → StandsAs old t → GoesTo state moves t failed new
+
+-- a migration is due
+abbrev pub IsMoveDue : SessionState → Type 0
+IsMoveDue s = due s.ahead
+  where
+    due : Option ℕ → Type 0
+    due (Some n) = (n ≡ 0) ⊎ AreAllDone s.script s.runs
+    due None = ⊥
+
+-- what comes next
+abbrev pub IsNext : SessionState → Next → Type 0
+IsNext s Turn = (AreAllDone s.script s.runs → ⊥) × (IsMoveDue s → ⊥)
+IsNext s Move = IsMoveDue s
+IsNext s End = AreAllDone s.script s.runs × (IsMoveDue s → ⊥)
+
+-- a session stands on a place and does turns
+pub record IsRunning {M : Type 0} (s : SessionState) (at : PlaceState M) : Type 0 where
+  pub phase : s.phase ≡ Running
+  pub ready : IsReady s.script (machine_of s at)
+
+-- a session went on by turns, and can do more
+pub record IsOnward {M : Type 0} (old : SessionState) (new : SessionState) (at : PlaceState M) : Type 0 where
+  pub script : new.script ≡ old.script
+  pub side : new.side ≡ old.side
+  pub ahead : (old.ahead ≡ None → new.ahead ≡ None) × (new.ahead ≡ None → old.ahead ≡ None)
+  pub running : IsRunning new at
+
+-- a turn less, where there is one
+abbrev pub less_one : Option ℕ → Option ℕ
+less_one (Some n) = Some (n - 1)
+less_one None = None
+
+-- turns stop where a migration is due, or at the end
+abbrev pub IsStop : Bool → SessionState → Type 0
+IsStop true s = IsMoveDue s
+IsStop false s = AreAllDone s.script s.runs × (IsMoveDue s → ⊥)
+
+-- The move and the end.
+
+-- where the guests go on
+abbrev pub IsMoved : {M : Type 0} → Ending → SessionState → PlaceState M → PlaceState M → Type 0
+IsMoved Done new at to = (new.side ≡ Destination) × IsRunning new to
+IsMoved GaveUp new at to = (new.side ≡ Source) × IsRunning new at
+
+-- the sides by the one on which a session stands
+abbrev pub by_side : {M : Type 0} → SessionState → PlaceState M → PlaceState M → SinkState → Sides M
+by_side {M} s from to out = of s.side
+  where
+    of : Side → Sides M
+    of Source = sides s from to out
+    of Destination = sides s to from out
+
+abbrev pub IsEnding : Option ℕ → Side → Ending → Type 0
+IsEnding None side Done = Unit {0}
+IsEnding None side GaveUp = ⊥
+IsEnding (Some turn) Source GaveUp = Unit {0}
+IsEnding (Some turn) Source Done = ⊥
+IsEnding (Some turn) Destination Done = Unit {0}
+IsEnding (Some turn) Destination GaveUp = ⊥
+
+-- how a run ended: a migration that was asked for was given up where the guests are on the source
+pub record HasEnded (ending : Ending) (s : SessionState) : Type 0 where
+  pub over : s.phase ≡ Over
+  pub ended : IsEnding s.script.head.migrate s.side ending
+
+-- What a session is as it is made.
+
+-- so many turns come before a migration that is asked for before the turn with a number
+abbrev pub turns_ahead : Option ℕ → Option ℕ
+turns_ahead (Some turn) = Some (turn - 1)
+turns_ahead None = None
+
+pub record IsNewSession (s : Script) (session : SessionState) : Type 0 where
+  pub script : session.script ≡ s
+  pub runs : AreRunsOf s session.runs
+  pub new : (k : ℕ) (d : LaneRun) → 1 ≤ k → k ≤ s.head.lanes → IsNewRun s k (slice_index_or session.runs (k - 1) d)
+  pub mix : session.order.mix ≡ s.head.mix
+  pub words : session.order.words ≡ word_state s.head.mix 0
+  pub ahead : session.ahead ≡ turns_ahead s.head.migrate
+  pub phase : session.phase ≡ New
+  pub side : session.side ≡ Source

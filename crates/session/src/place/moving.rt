@@ -1,0 +1,66 @@
+// What a place gives to the other one, where the guests are moved.
+ghost use Rattle.std.specs.Prelude.{◌≡◌, ◌<◌, [], ◌∷◌, is_err, length};
+ghost use Rattle.std.specs.List.{range_with_len};
+ghost use Rattle.guest_ram.specs.Ram.{all_pages, shape};
+ghost use Rattle.nvm_blocks.specs.Namespace.{block_count};
+ghost use Rattle.session.specs.Copies.{AreAlike, CopiesTo, both};
+ghost use Rattle.session.specs.Sides.{pages_of};
+
+use super::Place;
+use mig_base::Failed;
+use mig_medium::Medium;
+use std::mem::swap;
+
+impl<M: Medium> Place<M> {
+    /// How many window pages the guests have, over all lanes.
+    pub(crate) fn page_count(&self) -> u32
+        ensures { result ≡ length (all_pages self.now.windows) }
+    {
+        self.ram.page_count()
+    }
+
+    /// Copies every block to the other place, ascending, until a call of a medium fails.
+    ///
+    /// # Errors
+    ///
+    /// `Failed` where a call failed.
+    pub(crate) fn copy_blocks(&mut self, to: &mut Place<M>) -> Result<(), Failed>
+        requires { AreAlike (both self.old to.old) }
+        ensures copied { CopiesTo M.state M.moves (range_with_len 0 (block_count self.old.namespace)) (both self.old to.old) (is_err result) (both self.new to.new) }
+    {
+        let mut block = [0u8; 512];
+        for b in 0..self.namespace.len() {
+            self.copy_block(b, &mut block, to)?;
+        }
+        Ok(())
+    }
+
+    /// Copies a block through a buffer.
+    fn copy_block(
+        &mut self,
+        b: u32,
+        block: &mut [u8; 512],
+        to: &mut Place<M>,
+    ) -> Result<(), Failed>
+        requires alike { AreAlike (both self.old to.old) }
+        requires there { b < block_count self.old.namespace }
+        ensures copied { CopiesTo M.state M.moves (b ∷ []) (both self.old to.old) (is_err result) (both self.new to.new) }
+    {
+        self.namespace.copy_out(b, block)?;
+        to.namespace.put(b, block)
+    }
+
+    /// Gives the other place the guests' memory, page by page, and the controller.
+    pub(crate) fn hand_over(&mut self, to: &mut Place<M>)
+        requires { shape to.old.windows ≡ shape self.old.windows }
+        ensures pages { pages_of to.new.windows ≡ pages_of self.old.windows }
+        ensures shape { shape to.new.windows ≡ shape to.old.windows }
+        ensures to { to.new ≡ record to.old { windows = to.new.windows; controller = self.old.controller } }
+        ensures rest { self.new ≡ record self.old { controller = to.old.controller } }
+    {
+        for page in 0..self.ram.page_count() {
+            self.ram.copy_page(page, &mut to.ram);
+        }
+        swap(&mut self.controller, &mut to.controller);
+    }
+}
