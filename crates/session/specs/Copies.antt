@@ -5,7 +5,8 @@ use Rattle.nvm_model.specs.Chain.{Chain}
 use Rattle.nvm_model.specs.Medium.{IsAt, MediumState}
 use Rattle.nvm_blocks.specs.Namespace.{NamespaceState, block_count, media_of}
 use Rattle.turns.specs.Run.{CopiesAll, CopiesUpTo, Copy, gets_of, puts_of}
-use Rattle.session.specs.Place.{PlaceState}
+use Rattle.guest_ram.specs.Ram.{shape}
+use Rattle.session.specs.Place.{PlaceState, pages_of}
 use Rattle.session.specs.Shelves.{SameShelves}
 
 -- The copying of blocks from one place to another.
@@ -31,6 +32,13 @@ AreEnded blocks copies true = CopiesUpTo blocks copies
 pub record SamePlace {M : Type 0} (old new : PlaceState M) : Type 0 where
   pub shelves : SameShelves old.namespace new.namespace
   pub rest : new ≡ record old { namespace = new.namespace }
+
+-- a place's memory, page by page, and its controller went to the other one, which keeps its blocks
+pub record HandsOver {M : Type 0} (old new : Both M) : Type 0 where
+  pub pages : pages_of new.to.windows ≡ pages_of old.from.windows
+  pub shape : shape new.to.windows ≡ shape old.to.windows
+  pub to_is : new.to ≡ record old.to { windows = new.to.windows; controller = old.from.controller }
+  pub from_is : new.from ≡ record old.from { controller = old.to.controller }
 
 -- these blocks were copied by calls of both places' media, up to one where a call failed, and beside these nothing changed
 pub record CopiesTo {M I : Type 0} (state : M → MediumState I) (moves : I → Step → Bool → I → Type 0) (blocks : List ℕ) (old : Both M) (failed : Bool) (new : Both M) : Type 0 where

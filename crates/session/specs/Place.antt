@@ -1,4 +1,4 @@
-use Rattle.std.specs.Prelude.{◌≡◌, ℕ, ◌-◌, ◌*◌, ◌+◌, ◌≤◌, Bool, List, [], ◌∷◌, length, map, slice_index_or, vec_capacity}
+use Rattle.std.specs.Prelude.{◌≡◌, ℕ, ◌-◌, ◌*◌, ◌+◌, ◌≤◌, Bool, List, [], ◌∷◌, length, map, slice_index_or}
 use Rattle.nvm_model.specs.declared.script.Script.{Script}
 use Rattle.nvm_model.specs.Ring.{places_between}
 use Rattle.nvm_model.specs.ScriptText.{IsScript}
@@ -10,8 +10,6 @@ use Rattle.guest_ram.specs.Window.{WindowState}
 use Rattle.nvm_blocks.specs.Namespace.{NamespaceState, media_of}
 use Rattle.controller.specs.declared.controller.Phase.TheVariants.{Running}
 use Rattle.controller.specs.Pair.{ControllerState, PairState, pair_of}
-use Rattle.std.specs.declared.vec.Vec.{Vec}
-use Rattle.hall.specs.Plan.{PlanState}
 use Rattle.turns.specs.Run.{Here, IsTurn, Task, TurnDone, turn_lines}
 use Rattle.turns.specs.Run.Order.{Serial}
 use Rattle.session.specs.declared.lane_run.LaneRun.{LaneRun}
@@ -24,6 +22,10 @@ pub record PlaceState (M : Type 0) : Type 0 where
   pub namespace : NamespaceState M
   pub windows : List WindowState
   pub controller : ControllerState
+
+-- the pages of a memory's windows
+abbrev pub pages_of : List WindowState → List (List (List ℕ))
+pages_of windows = map (λ (w : WindowState). w.pages) windows
 
 -- what goes where the guests go, and the place on which it stands
 pub record Machine (M : Type 0) : Type 0 where
@@ -73,12 +75,6 @@ pub record IsReady {M : Type 0} (s : Script) (m : Machine M) : Type 0 where
   pub quiet : AreQuiet s m.runs m.place.controller
   pub stood : Here M
   pub stands : StandsOn s m stood
-
--- room for the largest turn
-pub record HasRoom {A : Type 0} (s : Script) (plan : PlanState) (events : Vec Line A) : Type 0 where
-  pub lanes : length plan.lanes ≡ s.head.lanes
-  pub pieces : plan.room ≡ 64 * s.head.burst
-  pub lines : 4608 * s.head.lanes ≤ vec_capacity events
 
 -- every guest has done its acts, and no command of its is under way
 abbrev pub AreAllDone : Script → List LaneRun → Type 0

@@ -17,7 +17,7 @@ use Rattle.session.specs.declared.session.Next.{Next}
 use Rattle.session.specs.declared.session.Next.TheVariants.{Turn, Move, End}
 use Rattle.nvm_model.specs.Turn.{word_state}
 use Rattle.session.specs.Lanes.{IsNewRun}
-use Rattle.session.specs.Place.{AreRunsOf, AreAllDone, IsReady, Machine, PlaceState, StandsOn, serial}
+use Rattle.session.specs.Place.{AreRunsOf, AreAllDone, IsReady, Machine, PlaceState, StandsOn, pages_of, serial}
 
 -- What goes where the guests go: the script, the runs of its lanes, the order of pieces, and where the run is. A migration
 -- is due after so many turns, where one is asked for and wasn't begun.
@@ -46,21 +46,17 @@ sink taken faults = record { taken = taken; faults = faults }
 abbrev pub machine_of : {M : Type 0} → SessionState → PlaceState M → Machine M
 machine_of session place = record { runs = session.runs; order = session.order; place = place }
 
--- a memory's windows as pages
-abbrev pub pages_of : List WindowState → List (List (List ℕ))
-pages_of windows = map (λ (w : WindowState). w.pages) windows
-
--- so many turns come before a migration that is asked for and wasn't begun
-abbrev pub IsAhead : {M : Type 0} → Snapshot M → Option ℕ → Type 0
-IsAhead t (Some n) = (t.tried ≡ false) × (t.task.script.head.migrate ≡ Some (t.turns + n + 1))
-IsAhead t None = t.tried ≡ false → t.task.script.head.migrate ≡ None
+-- so many turns come before a migration that is asked for and wasn't begun, where so many were done
+abbrev pub IsAhead : Bool → Option ℕ → ℕ → Option ℕ → Type 0
+IsAhead tried migrate turns (Some n) = (tried ≡ false) × (migrate ≡ Some (turns + n + 1))
+IsAhead tried migrate turns None = tried ≡ false → migrate ≡ None
 
 -- they stand for a run between two of its stages
 pub record StandsAs {M : Type 0} (m : Sides M) (t : Snapshot M) : Type 0 where
   pub task : t.task ≡ serial m.session.script
   pub phase : t.phase ≡ m.session.phase
   pub side : t.side ≡ m.session.side
-  pub ahead : IsAhead t m.session.ahead
+  pub ahead : IsAhead t.tried t.task.script.head.migrate t.turns m.session.ahead
   pub lanes : StandsOn m.session.script (machine_of m.session m.at) (here t)
   pub other : t.other ≡ media_of m.other.namespace
   pub left : t.left ≡ pages_of m.other.windows
@@ -76,13 +72,13 @@ pub record GoesTo {M I : Type 0} (state : M → MediumState I) (moves : I → St
 abbrev pub Goes : {M I : Type 0} → (M → MediumState I) → (I → Step → Bool → I → Type 0) → Sides M → Bool → Sides M → Type 0
 Goes {M} state moves old failed new = (t : Snapshot M) → StandsAs old t → GoesTo state moves t failed new
 
--- a migration is due
+-- a migration is due: no turn comes before it, or all is done
+abbrev pub IsDueAfter : Option ℕ → Type 0 → Type 0
+IsDueAfter (Some n) done = (n ≡ 0) ⊎ done
+IsDueAfter None done = ⊥
+
 abbrev pub IsMoveDue : SessionState → Type 0
-IsMoveDue s = due s.ahead
-  where
-    due : Option ℕ → Type 0
-    due (Some n) = (n ≡ 0) ⊎ AreAllDone s.script s.runs
-    due None = ⊥
+IsMoveDue s = IsDueAfter s.ahead (AreAllDone s.script s.runs)
 
 -- what comes next
 abbrev pub IsNext : SessionState → Next → Type 0

@@ -1,8 +1,8 @@
-ghost use Rattle.std.specs.Prelude.{◌≡◌, ◌-◌, ◌≤◌, ℕ, IfOk, IfSome, length, slice_index_or};
+ghost use Rattle.std.specs.Prelude.{◌≡◌, ◌-◌, ◌≤◌, ℕ, IfOk, IfSome, IsTrue, length, slice_index_or};
 ghost use Rattle.nvm_model.specs.ScriptText.{IsScript};
 ghost use Rattle.session.specs.declared.lane_run.LaneRun.{LaneRun};
 ghost use Rattle.session.specs.Lanes.{IsNewRun, IsRunOf};
-ghost use Rattle.session.specs.Sides.{IsNewSession, IsNext, turns_ahead};
+ghost use Rattle.session.specs.Sides.{IsDueAfter, IsNewSession, IsNext, turns_ahead};
 
 use crate::lane_run::LaneRun;
 use crate::order::Order;
@@ -39,13 +39,14 @@ pub struct Session {
 
 impl Model for Session {
     ghost use Rattle.session.specs.Sides.{SessionState};
-    ghost use Rattle.session.specs.Place.{HasRoom};
+    ghost use Rattle.session.specs.Phases.{HasRoom};
+    ghost use Rattle.session.specs.Place.{AreRunsOf};
 
     ghost Value = { SessionState };
 
     ghost view = { λ s. record { script = s.script; runs = s.runs.items; order = s.order; ahead = s.ahead; phase = s.phase; side = s.side } };
 
-    ghost invariant = { λ s. HasRoom s.script s.plan s.events };
+    ghost invariant = { λ s. HasRoom s.script s.plan s.events × AreRunsOf s.script s.runs.items };
 }
 
 /// What comes next in a run.
@@ -95,11 +96,24 @@ impl Session {
         ensures { IsNext self.now result }
     {
         let complete = are_all_done(&self.script, &self.runs);
-        match self.ahead {
-            Some(turns) if turns == 0 || complete => Next::Move,
-            _ if complete => Next::End,
-            _ => Next::Turn,
+        if is_due(self.ahead, complete) {
+            return Next::Move;
         }
+        if complete {
+            return Next::End;
+        }
+        Next::Turn
+    }
+}
+
+/// Whether a migration is due: no turn comes before it, or all is done.
+fn is_due(ahead: Option<u32>, done: bool) -> bool
+    ensures due { IsTrue result → IsDueAfter ahead (IsTrue done) }
+    ensures not { IsDueAfter ahead (IsTrue done) → IsTrue result }
+{
+    match ahead {
+        Some(turns) => done || turns == 0,
+        None => false,
     }
 }
 

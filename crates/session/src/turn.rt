@@ -1,7 +1,8 @@
 // STUB
-ghost use Rattle.std.specs.Prelude.{◌≡◌, ◌<◌, true, false};
+ghost use Rattle.std.specs.Prelude.{◌<◌, IsTrue};
 ghost use Rattle.turns.specs.Run.{Here};
-ghost use Rattle.session.specs.Place.{AreAllDone, DoesTurn, HasRoom, IsReady, StandsOn, machine, total_work};
+ghost use Rattle.session.specs.Phases.{HasRoom};
+ghost use Rattle.session.specs.Place.{AreAllDone, AreRunsOf, DoesTurn, IsReady, StandsOn, machine, total_work};
 
 use crate::{LaneRun, Order, Place};
 use hall::Plan;
@@ -12,9 +13,10 @@ use nvm_model::{Line, Script};
 pub const MOST_EVENTS: usize = 4608;
 
 /// Whether every guest has done its acts and no command of its is under way.
-pub(crate) fn are_all_done(script: &Script, runs: &[LaneRun]) -> bool
-    ensures yes { result ≡ true → AreAllDone script.now runs.now }
-    ensures no { result ≡ false → AreAllDone script.now runs.now → ⊥ }
+pub(crate) fn are_all_done(script: &Script, runs: &Vec<LaneRun>) -> bool
+    requires runs { AreRunsOf script.now runs.now.items }
+    ensures done { IsTrue result → AreAllDone script.now runs.now.items }
+    ensures not { AreAllDone script.now runs.now.items → IsTrue result }
 {
     true
 }

@@ -5,3 +5,9 @@ pub mod PlanLemmas
 pub mod RestLemmas
 pub mod EventLaws
 pub mod CutLaws
+pub mod CalmLaws
+pub mod MediaLaws
+pub mod RunLaws
+pub mod PieceLaws
+pub mod CopyLaws
+pub mod ToldLaws

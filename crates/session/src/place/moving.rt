@@ -3,10 +3,11 @@ ghost use Rattle.std.specs.Prelude.{◌≡◌, ◌<◌, [], ◌∷◌, is_err, l
 ghost use Rattle.std.specs.List.{range_with_len};
 ghost use Rattle.guest_ram.specs.Ram.{all_pages, shape};
 ghost use Rattle.nvm_blocks.specs.Namespace.{block_count};
-ghost use Rattle.session.specs.Copies.{AreAlike, CopiesTo, both};
-ghost use Rattle.session.specs.Sides.{pages_of};
+ghost use Rattle.session.specs.Copies.{AreAlike, CopiesTo, HandsOver, both};
+ghost use Rattle.session.specs.Place.{pages_of};
 
 use super::Place;
+use guest_ram::Ram;
 use mig_base::Failed;
 use mig_medium::Medium;
 use std::mem::swap;
@@ -53,14 +54,20 @@ impl<M: Medium> Place<M> {
     /// Gives the other place the guests' memory, page by page, and the controller.
     pub(crate) fn hand_over(&mut self, to: &mut Place<M>)
         requires { shape to.old.windows ≡ shape self.old.windows }
-        ensures pages { pages_of to.new.windows ≡ pages_of self.old.windows }
-        ensures shape { shape to.new.windows ≡ shape to.old.windows }
-        ensures to { to.new ≡ record to.old { windows = to.new.windows; controller = self.old.controller } }
-        ensures rest { self.new ≡ record self.old { controller = to.old.controller } }
+        ensures { HandsOver (both self.old to.old) (both self.new to.new) }
     {
-        for page in 0..self.ram.page_count() {
-            self.ram.copy_page(page, &mut to.ram);
-        }
+        copy_pages(&self.ram, &mut to.ram);
         swap(&mut self.controller, &mut to.controller);
+    }
+}
+
+/// Copies every window page.
+fn copy_pages(from: &Ram, to: &mut Ram)
+    requires { shape to.old ≡ shape from.now }
+    ensures pages { pages_of to.new ≡ pages_of from.now }
+    ensures shape { shape to.new ≡ shape to.old }
+{
+    for page in 0..from.page_count() {
+        from.copy_page(page, to);
     }
 }

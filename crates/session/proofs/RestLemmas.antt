@@ -1,0 +1,139 @@
+use Rattle.std.proofs.Common.{◌≡◌, ℕ, suc, ◌+◌, ◌-◌, ◌<◌, ◌≤◌, List, [], ◌∷◌, length, slice_index_or, refl, sym, ap, subst, ◌∙◌, arith}
+use Rattle.nvm_model.specs.declared.script.Script.{Script}
+use Rattle.nvm_model.specs.History.{Complete, IsLaneComplete}
+use Rattle.nvm_model.specs.Ring.{places_between}
+use Rattle.nvm_model.specs.ScriptText.{IsScript, IsSet}
+use Rattle.nvm_model.specs.World.{Lane, acts_of, new_lane, set_of}
+use Rattle.nvm_model.proofs.PlaceLemmas.{places_between-mods}
+use Rattle.guest_ram.specs.Window.{WindowState}
+use Rattle.mig_base.proofs.ListLemmas.{empty_list}
+use Rattle.nvm_ring.proofs.QueueLemmas.{last_told, told_few}
+use Rattle.controller.specs.Pair.{ControllerState, PairState, outcomes_of, pair_of, worked}
+use Rattle.turns.specs.Frame.{AreAtRest, AreServed, IsAtRest, total_left, work_left}
+use Rattle.turns.specs.Run.{among}
+use Rattle.session.specs.declared.lane_run.LaneRun.{LaneRun}
+use Rattle.session.specs.Lanes.{IsRunOf, Stands}
+use Rattle.session.specs.Place.{AreAllDone, AreQuiet, AreRunsOf, StandsFor, run_work, total_work}
+use Rattle.session.proofs.LaneLemmas.{set_fits}
+
+-- What is known of the lanes for which runs stand between two turns.
+
+-- one of a list that isn't empty
+some_of : {X : Type 0} (xs : List X) → 1 ≤ length xs → X
+some_of [] some = absurd (omega (arith, some))
+some_of (x ∷ xs) some = x
+
+some_run : {s : Script} {runs : List LaneRun} → IsScript s → AreRunsOf s runs → LaneRun
+some_run {runs = runs} is are = some_of runs (omega (arith, are.count, is.head.lanes))
+
+-- One lane.
+
+lane_rests : {s : Script} {k : ℕ} {run : LaneRun} {pair : PairState} {window : WindowState} {lane : Lane} → IsRunOf s k run → Stands s k run pair window lane → pair.commands ≡ [] → IsAtRest s k lane
+lane_rests {s} {k} {run} {lane = lane} is stands between =
+    let o = stands.ordered in
+    let none : lane.running ≡ [] = stands.running ∙ ap (λ cs. worked s.head.shelf cs (outcomes_of run.results.items)) between in
+    let empty : length lane.running ≡ 0 = ap length none in
+    let posted : length lane.posted ≡ lane.fetched = omega (arith, o.posted, empty) in
+    let acts : length run.script.acts.items ≡ length (acts_of k s.acts) = ap length is.script.acts_are ∙ ap (λ (j : ℕ). length (acts_of j s.acts)) is.lane in
+    record { acts = omega (arith, stands.acts, is.few, acts); none = none; fetched = o.fetched; posted = posted; reaped = o.reaped; told = last_told o posted }
+
+-- where nothing waits and the acts are done, the lane is complete
+lane_completes : {s : Script} {k : ℕ} {run : LaneRun} {pair : PairState} {window : WindowState} {lane : Lane} → IsRunOf s k run → Stands s k run pair window lane →
+    (run.acts_done ≡ length run.script.acts.items) × (run.guest.waiting ≡ 0) → IsLaneComplete s k lane
+lane_completes {s} {k} {run} {lane = lane} is stands done =
+    let o = stands.ordered in
+    let waits = stands.guest_ends.waits in
+    let acts : length run.script.acts.items ≡ length (acts_of k s.acts) = ap length is.script.acts_are ∙ ap (λ (j : ℕ). length (acts_of j s.acts)) is.lane in
+    record {
+      acts = omega (arith, stands.acts, done.0, acts);
+      quiet = record {
+        all_fetched = omega (arith, done.1, waits, o.fetched, o.posted, o.reaped);
+        none_running = empty_list lane.running (omega (arith, done.1, waits, o.fetched, o.posted, o.reaped));
+        all_reaped = omega (arith, done.1, waits, o.fetched, o.posted, o.reaped);
+      };
+    }
+
+-- and the other way round
+run_completes : {s : Script} {k : ℕ} {run : LaneRun} {pair : PairState} {window : WindowState} {lane : Lane} → IsRunOf s k run → Stands s k run pair window lane → IsLaneComplete s k lane →
+    (run.acts_done ≡ length run.script.acts.items) × (run.guest.waiting ≡ 0)
+run_completes {s} {k} {run} {lane = lane} is stands done =
+    let o = stands.ordered in
+    let quiet = done.quiet in
+    let none : length lane.running ≡ 0 = ap length quiet.none_running in
+    let acts : length run.script.acts.items ≡ length (acts_of k s.acts) = ap length is.script.acts_are ∙ ap (λ (j : ℕ). length (acts_of j s.acts)) is.lane in
+    (omega (arith, stands.acts, done.acts, acts), omega (arith, stands.guest_ends.waits, quiet.all_fetched, quiet.all_reaped, o.posted, none))
+
+-- what the run has left is what the lane has left
+lane_work : {s : Script} {k : ℕ} {run : LaneRun} {pair : PairState} {window : WindowState} {lane : Lane} → IsRunOf s k run → IsSet (set_of s.head k) → Stands s k run pair window lane → pair.commands ≡ [] →
+    run_work run pair ≡ work_left s k lane
+lane_work {s} {k} {run} {pair} {lane = lane} is set stands between =
+    let o = stands.ordered in
+    let sq = (set_of s.head k).sq in
+    let rest = lane_rests is stands between in
+    let none : length lane.running ≡ 0 = ap length rest.none in
+    let empty : length pair.commands ≡ 0 = ap length between in
+    let acts : length run.script.acts.items ≡ length (acts_of k s.acts) = ap length is.script.acts_are ∙ ap (λ (j : ℕ). length (acts_of j s.acts)) is.lane in
+    let few : length lane.submitted < lane.fetched + sq = omega (arith, o.untold, told_few o.tells lane.reaped o.reaped) in
+    let places : places_between pair.sq.size pair.sq.head pair.sq.tail ≡ length lane.submitted - lane.fetched =
+    ap (λ r. places_between r.size r.head r.tail) stands.ends.sq_is ∙ places_between-mods sq lane.fetched (length lane.submitted) o.fetched few in
+    omega (arith, stands.acts, acts, places, none, empty, stands.guest_ends.waits)
+
+-- All lanes. A fact of each of them, by its number, is one of the list, whose first has number k.
+
+first_of : {X : Type 0} (k : ℕ) (x : X) (xs : List X) (d : X) → slice_index_or (x ∷ xs) (k - k) d ≡ x
+first_of k x xs d = let none : k - k ≡ 0 = omega arith in ap (λ (i : ℕ). slice_index_or (x ∷ xs) i d) none
+
+later_of : {X : Type 0} (k j : ℕ) (x : X) (xs : List X) (d : X) → k + 1 ≤ j → slice_index_or (x ∷ xs) (j - k) d ≡ slice_index_or xs (j - (k + 1)) d
+later_of k j x xs d later = let next : j - k ≡ suc (j - (k + 1)) = omega (arith, later) in ap (λ (i : ℕ). slice_index_or (x ∷ xs) i d) next
+
+at_rest_from : (s : Script) (k : ℕ) (lanes : List Lane) → ((j : ℕ) → k ≤ j → j < k + length lanes → IsAtRest s j (slice_index_or lanes (j - k) (new_lane 0))) → AreAtRest s k lanes
+at_rest_from s k [] each = tt
+at_rest_from s k (lane ∷ lanes) each = (
+  subst (λ (l : Lane). IsAtRest s k l) (first_of k lane lanes (new_lane 0)) (each k (omega arith) (omega arith)),
+  at_rest_from s (k + 1) lanes (λ j later there. subst (λ (l : Lane). IsAtRest s j l) (later_of k j lane lanes (new_lane 0) later) (each j (omega (arith, later)) (omega (arith, there)))),
+)
+
+served_from : (s : Script) (k : ℕ) (lanes : List Lane) → ((j : ℕ) → k ≤ j → j < k + length lanes → IsSet (set_of s.head j)) → AreServed s k lanes
+served_from s k [] each = tt
+served_from s k (lane ∷ lanes) each = (record { set = each k (omega arith) (omega arith) }, served_from s (k + 1) lanes (λ j later there. each j (omega (arith, later)) (omega (arith, there))))
+
+work_from : (s : Script) (k : ℕ) (runs : List LaneRun) (controller : ControllerState) (lanes : List Lane) → length runs ≡ length lanes →
+    ((j : ℕ) (d : LaneRun) → k ≤ j → j < k + length lanes → run_work (slice_index_or runs (j - k) d) (pair_of controller j) ≡ work_left s j (slice_index_or lanes (j - k) (new_lane 0))) → total_work k runs controller ≡ total_left s k lanes
+work_from s k [] controller [] same each = refl
+work_from s k [] controller (lane ∷ lanes) same each = absurd (omega (arith, same))
+work_from s k (run ∷ runs) controller [] same each = absurd (omega (arith, same))
+work_from s k (run ∷ runs) controller (lane ∷ lanes) same each =
+    let first : run_work run (pair_of controller k) ≡ work_left s k lane =
+    ap (λ (r : LaneRun). run_work r (pair_of controller k)) (sym (first_of k run runs run)) ∙ each k run (omega arith) (omega arith) ∙ ap (work_left s k) (first_of k lane lanes (new_lane 0)) in
+    let others = work_from s (k + 1) runs controller lanes (omega (arith, same)) (λ j d later there.
+    ap (λ (r : LaneRun). run_work r (pair_of controller j)) (sym (later_of k j run runs d later)) ∙ each j d (omega (arith, later)) (omega (arith, there)) ∙ ap (work_left s j) (later_of k j lane lanes (new_lane 0) later)) in
+    omega (arith, first, others)
+
+-- lanes between turns are at rest
+pub at_rest : {s : Script} {runs : List LaneRun} {controller : ControllerState} {windows : List WindowState} {lanes : List Lane} → IsScript s → AreRunsOf s runs → AreQuiet s runs controller → StandsFor s runs controller windows lanes → AreAtRest s 1 lanes
+at_rest {s} {lanes = lanes} is are quiet stands = at_rest_from s 1 lanes (λ k first there.
+    let few : k ≤ s.head.lanes = omega (arith, there, stands.count) in
+    let d = some_run is are in
+    lane_rests (are.each k d first few) (stands.each k d (new_lane 0) first few) (quiet.commands k first few))
+
+pub are_served : (s : Script) (lanes : List Lane) → IsScript s → length lanes ≡ s.head.lanes → AreServed s 1 lanes
+are_served s lanes is count = served_from s 1 lanes (λ k first there. set_fits s.head k is.head first (omega (arith, there, count)))
+
+-- where all is done the lanes are complete
+pub complete_is : {s : Script} {runs : List LaneRun} {controller : ControllerState} {windows : List WindowState} {lanes : List Lane} → IsScript s → AreRunsOf s runs → StandsFor s runs controller windows lanes → AreAllDone s runs → Complete s (among lanes)
+complete_is {s} is are stands done k there =
+    let few : k ≤ s.head.lanes = omega (arith, there.1, stands.count) in
+    let d = some_run is are in
+    lane_completes (are.each k d there.0 few) (stands.each k d (new_lane 0) there.0 few) (done k d there.0 few)
+
+-- and the other way round
+pub done_is : {s : Script} {runs : List LaneRun} {controller : ControllerState} {windows : List WindowState} {lanes : List Lane} → AreRunsOf s runs → StandsFor s runs controller windows lanes → Complete s (among lanes) → AreAllDone s runs
+done_is {lanes = lanes} are stands complete k d first few =
+    let there : k ≤ length lanes = omega (arith, few, stands.count) in
+    run_completes (are.each k d first few) (stands.each k d (new_lane 0) first few) (complete k (first, there))
+
+-- what is left is what the lanes have left
+pub work_is : {s : Script} {runs : List LaneRun} {controller : ControllerState} {windows : List WindowState} {lanes : List Lane} → IsScript s → AreRunsOf s runs → AreQuiet s runs controller → StandsFor s runs controller windows lanes → total_work 1 runs controller ≡ total_left s 1 lanes
+work_is {s} {runs} {controller} {lanes = lanes} is are quiet stands = work_from s 1 runs controller lanes (are.count ∙ sym stands.count) (λ k d first there.
+    let few : k ≤ s.head.lanes = omega (arith, there, stands.count) in
+    lane_work (are.each k d first few) (set_fits s.head k is.head first few) (stands.each k d (new_lane 0) first few) (quiet.commands k first few))

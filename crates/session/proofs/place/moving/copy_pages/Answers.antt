@@ -1,0 +1,25 @@
+use Rattle.std.proofs.Common.{◌≡◌, ◌+◌, ℕ, List, [], length, take, ap, ◌∙◌, arith, rules}
+use Rattle.guest_ram.specs.Ram.{all_pages}
+use Rattle.guest_ram.specs.Window.{WindowState}
+use Rattle.session.specs.Place.{pages_of}
+use Rattle.session.proofs.MemoryLemmas.{one_copied, as_many_pages, all_pages_copied}
+use Rattle.session.proofs.place.moving.copy_pages.Goals as goal
+
+pub copy_page-requires-clause-to : goal.copy_page-requires-clause-to
+copy_page-requires-clause-to c =
+    let many = as_many_pages c.loop-page.to c.args.from.now c.loop-page.invariant.shape in
+    omega (arith, many)
+
+pub loop-page-preserved : goal.loop-page-preserved
+loop-page-preserved c =
+    let many = as_many_pages c.loop-page.to c.args.from.now c.loop-page.invariant.shape in
+    record {
+      shape = search rules;
+      copied = ap (λ (pages : List (List ℕ)). take (c.loop-page.page + 1) pages) c.copy_page.ensures.pages
+          ∙ one_copied c.loop-page.page (all_pages c.args.from.now) (all_pages c.loop-page.to) [] (omega arith) (omega (arith, many)) c.loop-page.invariant.copied;
+    }
+
+pub returns-clause-pages : goal.returns-clause-pages
+returns-clause-pages c =
+    let all : c.loop-page.page ≡ length (all_pages c.args.from.now) = omega arith in
+    ap (λ (windows : List WindowState). pages_of windows) (all_pages_copied c.loop-page.page c.args.from.now c.loop-page.to c.loop-page.invariant.shape all c.loop-page.invariant.copied)

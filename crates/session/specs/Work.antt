@@ -1,0 +1,59 @@
+use Rattle.std.specs.Prelude.{◌≡◌, ℕ, ◌+◌, ◌-◌, ◌/◌, ◌≤◌, List, [], ◌∷◌, ◌++◌, All, Option, Some, None, length, map, slice_index_or, vec_capacity}
+use Rattle.nvm_values.specs.declared.op.Op.{Op}
+use Rattle.nvm_values.specs.declared.op.Op.TheVariants.{Flush, Write, Read, Compare, WriteZeroes, Verify}
+use Rattle.nvm_model.specs.declared.piece.Piece.{Piece}
+use Rattle.nvm_model.specs.declared.piece.PieceResult.{PieceResult}
+use Rattle.nvm_model.specs.declared.script.Head.{Head}
+use Rattle.nvm_model.specs.declared.script.Script.{Script}
+use Rattle.nvm_model.specs.World.{set_of}
+use Rattle.nvm_blocks.specs.Work.{HasPages}
+use Rattle.hall.specs.Plan.{PlanState, pieces_of}
+use Rattle.controller.specs.Pair.{IsFetched, PairState, lane_pieces, told_fetch}
+use Rattle.session.specs.declared.lane_run.LaneRun.{LaneRun}
+
+-- The pieces of a turn, one by one.
+
+-- the digest that a piece's line tells
+abbrev pub digest_told : Op → List ℕ → Option (List ℕ)
+digest_told Read digest = Some digest
+digest_told Write digest = None
+digest_told WriteZeroes digest = None
+digest_told Compare digest = None
+digest_told Verify digest = None
+digest_told Flush digest = None
+
+-- how many pieces of each lane aren't done
+pub record AreLeft (s : Script) (runs : List LaneRun) (plan : PlanState) (left : List ℕ) : Type 0 where
+  pub count : length left ≡ s.head.lanes
+  pub each : (k : ℕ) (d : LaneRun) → 1 ≤ k → k ≤ s.head.lanes
+      → slice_index_or left (k - 1) 0 + length (slice_index_or runs (k - 1) d).results.items ≡ length (pieces_of plan k)
+
+-- a part of a command of a namespace, for a window of so many data pages
+pub record IsPartFor (head : Head) (pages : ℕ) (p : Piece) : Type 0 where
+  pub op : p.op ≡ Flush → ⊥
+  pub some : 1 ≤ p.span.count
+  pub few : p.span.count ≤ 64
+  pub within : p.span.first + p.span.count ≤ head.blocks
+  pub one_shelf : p.span.first / head.shelf ≡ (p.span.first + p.span.count - 1) / head.shelf
+  pub has_pages : HasPages p pages
+
+-- a run after one result more
+pub record HasResult (run : LaneRun) (result : PieceResult) (new : LaneRun) : Type 0 where
+  pub script : new.script ≡ run.script
+  pub guest : new.guest ≡ run.guest
+  pub acts_done : new.acts_done ≡ run.acts_done
+  pub results : new.results.items ≡ run.results.items ++ result ∷ []
+  pub room : vec_capacity new.results ≡ vec_capacity run.results
+
+-- the run at a place has one result more, and no other run changed
+pub record HasResultAt (at : ℕ) (result : PieceResult) (runs new : List LaneRun) : Type 0 where
+  pub count : length new ≡ length runs
+  pub here : (d : LaneRun) → HasResult (slice_index_or runs at d) result (slice_index_or new at d)
+  pub others : (i : ℕ) (d : LaneRun) → (i ≡ at → ⊥) → slice_index_or new i d ≡ slice_index_or runs i d
+
+-- the commands of a lane were fetched, and all their pieces were done
+pub record MayPost (s : Script) (k : ℕ) (run : LaneRun) (pair : PairState) : Type 0 where
+  pub told : pair.fetched ≡ map (told_fetch s.head.shelf) pair.commands
+  pub checked : All (IsFetched s.head.blocks (set_of s.head k).pages) pair.commands
+  pub few : length pair.commands ≤ s.head.burst
+  pub done : length run.results.items ≡ length (lane_pieces k s.head.shelf pair.commands)

@@ -1,0 +1,107 @@
+use Rattle.std.proofs.Common.{◌≡◌, ℕ, ◌≤◌, Bool, true, false, List, [], ◌∷◌, ◌++◌, Option, refl, sym, ap, subst, ◌∙◌, append_assoc, append-nil, arith}
+use Rattle.std.specs.Prelude.{Result, Ok, Err, is_err}
+use Rattle.std.specs.List.{flat_map}
+use Rattle.std.proofs.lemmas.Grind.{flat_map-append}
+use Rattle.mig_base.specs.Count.{RisesBy}
+use Rattle.mig_base.specs.Stream.{IsCut, Writes, with_more}
+use Rattle.mig_base.proofs.WriteLemmas.{with_more_nothing, written_more}
+use Rattle.nvm_model.specs.declared.line.Line.{Line}
+use Rattle.nvm_model.specs.declared.script.Script.{Script}
+use Rattle.nvm_model.specs.declared.trace.Step.{Step}
+use Rattle.nvm_model.specs.Chain.{Chain}
+use Rattle.nvm_model.specs.Medium.{MediumState}
+use Rattle.nvm_model.specs.Text.{line_text, text_of}
+use Rattle.nvm_model.proofs.ChainLemmas.{chain_keeps, chain_more, chain_one}
+use Rattle.turns.specs.Run.{IsStage, IsWritten, Snapshot, Stage, Task, Went, lines_in, lines_of}
+use Rattle.turns.specs.Run.Stage.{Title, Turn, Begin, Resume, GiveUp, End}
+
+-- A run goes on, stage after stage.
+
+-- What is asked never changes.
+
+pub stage_task : {M I : Type 0} (state : M → MediumState I) (moves : I → Step → Bool → I → Type 0) (x : Snapshot M) (stage : Stage) (y : Snapshot M) → IsStage state moves x stage y → y.task ≡ x.task
+stage_task {M} state moves x Title y r = ap (λ (t : Snapshot M). t.task) r.after
+stage_task {M} state moves x (Turn side t) y r = ap (λ (t : Snapshot M). t.task) r.after
+stage_task {M} state moves x Begin y r = ap (λ (t : Snapshot M). t.task) r.after
+stage_task {M} state moves x (Resume side copies) y r = ap (λ (t : Snapshot M). t.task) r.after
+stage_task {M} state moves x (GiveUp side copies) y r = ap (λ (t : Snapshot M). t.task) r.after
+stage_task {M} state moves x End y r = ap (λ (t : Snapshot M). t.task) r.after
+
+pub run_task : {M I : Type 0} (state : M → MediumState I) (moves : I → Step → Bool → I → Type 0) (old : Snapshot M) (stages : List Stage) (new : Snapshot M) → Chain (IsStage state moves) old stages new → new.task ≡ old.task
+run_task {M} state moves old stages new c =
+    chain_keeps (IsStage state moves) (λ (x : Snapshot M). x.task ≡ old.task) (λ x stage y r is. stage_task state moves x stage y r ∙ is) old stages new c refl
+
+-- Their text.
+
+pub lines_in_more : (s : Script) (front back : List Stage) → lines_in s (front ++ back) ≡ lines_in s front ++ lines_in s back
+lines_in_more s front back = flat_map-append (lines_of s) front back
+
+text_in : (s : Script) (front back : List Stage) → text_of (lines_in s front) ++ text_of (lines_in s back) ≡ text_of (lines_in s (front ++ back))
+text_in s front back = sym (ap text_of (lines_in_more s front back) ∙ flat_map-append line_text (lines_in s front) (lines_in s back))
+
+all_written : (s : Script) (front back : List Stage) (old mid new : Option (List ℕ)) → mid ≡ with_more (text_of (lines_in s front)) old → new ≡ with_more (text_of (lines_in s back)) mid → new ≡ with_more (text_of (lines_in s (front ++ back))) old
+all_written s front back old mid new p q =
+    subst (λ (text : List ℕ). new ≡ with_more text old) (text_in s front back) (written_more (text_of (lines_in s front)) (text_of (lines_in s back)) old mid new p q)
+
+stages_written : (s : Script) (front back : List Stage) (failed : Bool) (old mid new : Option (List ℕ)) → IsWritten s front old false mid → IsWritten s back mid failed new → IsWritten s (front ++ back) old failed new
+stages_written s front back false old mid new p q = all_written s front back old mid new p q
+stages_written s front back true old mid new p q = (
+  front ++ q.0,
+  q.1,
+  ap (λ (stages : List Stage). front ++ stages) q.2 ∙ sym (append_assoc front q.0 (q.1 ∷ [])),
+  subst (λ (b : Option (List ℕ)). IsCut (text_of (lines_of s q.1)) b new) (all_written s front q.0 old mid (with_more (text_of (lines_in s q.0)) mid) p refl) q.3,
+)
+
+-- a text went out, or a front of it where the sink failed
+abbrev pub IsSent : List ℕ → Option (List ℕ) → Bool → Option (List ℕ) → Type 0
+IsSent text old false new = new ≡ with_more text old
+IsSent text old true new = IsCut text old new
+
+one_written : (s : Script) (stage : Stage) (failed : Bool) (old new : Option (List ℕ)) → IsSent (text_of (lines_of s stage)) old failed new → IsWritten s (stage ∷ []) old failed new
+one_written s stage false old new sent = subst (λ (ls : List Line). new ≡ with_more (text_of ls) old) (sym (append-nil (lines_of s stage))) sent
+one_written s stage true old new sent = ([], stage, refl, subst (λ (b : Option (List ℕ)). IsCut (text_of (lines_of s stage)) b new) (sym (with_more_nothing old)) sent)
+
+-- Runs.
+
+-- no stage
+pub went_none : {M I : Type 0} {state : M → MediumState I} {moves : I → Step → Bool → I → Type 0} (old : Snapshot M) → Went state moves old false old
+went_none old = record { stages = []; run = refl; text = sym (with_more_nothing old.out.taken); later = omega arith; rose = λ e. absurd cc }
+
+-- one stage, and its text
+pub went_stage : {M I : Type 0} {state : M → MediumState I} {moves : I → Step → Bool → I → Type 0} {old new : Snapshot M} {failed : Bool} (stage : Stage) → IsStage state moves old stage new →
+    IsSent (text_of (lines_of old.task.script stage)) old.out.taken failed new.out.taken → old.out.faults ≤ new.out.faults → (failed ≡ true → RisesBy 1 old.out.faults new.out.faults) → Went state moves old failed new
+went_stage {M} {I} {state} {moves} {old} {new} {failed} stage is sent later rose = record {
+  stages = stage ∷ [];
+  run = chain_one (IsStage state moves) old stage new is;
+  text = one_written old.task.script stage failed old.out.taken new.out.taken sent;
+  later = later;
+  rose = rose;
+}
+
+sent_by : {T E : Type 0} (text : List ℕ) (old new : Option (List ℕ)) (faults now : ℕ) (result : Result T E) → Writes text old new faults now result → IsSent text old (is_err result) new
+sent_by text old new faults now (Ok t) w = w.written
+sent_by text old new faults now (Err e) w = w.cut
+
+rose_by : {T E : Type 0} (text : List ℕ) (old new : Option (List ℕ)) (faults now : ℕ) (result : Result T E) → Writes text old new faults now result → is_err result ≡ true → RisesBy 1 faults now
+rose_by text old new faults now (Ok t) w e = absurd cc
+rose_by text old new faults now (Err e) w is = w.cause.failed is
+
+-- the same by the call that wrote it
+pub went_sent : {M I T E : Type 0} {state : M → MediumState I} {moves : I → Step → Bool → I → Type 0} {old new : Snapshot M} {result : Result T E} (stage : Stage) → IsStage state moves old stage new →
+    Writes (text_of (lines_of old.task.script stage)) old.out.taken new.out.taken old.out.faults new.out.faults result → Went state moves old (is_err result) new
+went_sent {old} {new} {result} stage is w =
+    let text = text_of (lines_of old.task.script stage) in
+    went_stage stage is (sent_by text old.out.taken new.out.taken old.out.faults new.out.faults result w) w.cause.later (rose_by text old.out.taken new.out.taken old.out.faults new.out.faults result w)
+
+-- a run that went on, and went on again
+pub went_more : {M I : Type 0} {state : M → MediumState I} {moves : I → Step → Bool → I → Type 0} {old mid new : Snapshot M} {failed : Bool} → Went state moves old false mid → Went state moves mid failed new → Went state moves old failed new
+went_more {M} {I} {state} {moves} {old} {mid} {new} {failed} a b =
+    let text : IsWritten old.task.script b.stages mid.out.taken failed new.out.taken =
+    subst (λ (t : Task). IsWritten t.script b.stages mid.out.taken failed new.out.taken) (run_task state moves old a.stages mid a.run) b.text in
+    record {
+      stages = a.stages ++ b.stages;
+      run = chain_more (IsStage state moves) old a.stages mid b.stages new a.run b.run;
+      text = stages_written old.task.script a.stages b.stages failed old.out.taken mid.out.taken new.out.taken a.text text;
+      later = omega (arith, a.later, b.later);
+      rose = λ e. omega (arith, a.later, b.rose e);
+    }
