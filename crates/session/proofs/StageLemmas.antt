@@ -10,14 +10,15 @@ use Rattle.nvm_model.specs.Chain.{Chain}
 use Rattle.nvm_model.specs.History.{Complete}
 use Rattle.nvm_model.specs.Medium.{At, IsAt, MediumState}
 use Rattle.nvm_model.specs.Text.{text_of}
-use Rattle.nvm_model.specs.World.{Lane, window_pages}
+use Rattle.nvm_model.specs.World.{Lane}
 use Rattle.controller.specs.Pair.{ControllerState}
-use Rattle.guest_ram.specs.Ram.{shape}
+use Rattle.guest_ram.specs.Ram.{all_pages, shape}
 use Rattle.guest_ram.specs.Window.{WindowState}
 use Rattle.nvm_blocks.specs.Namespace.{NamespaceState, media_of}
 use Rattle.turns.specs.declared.run.RunPhase.{RunPhase}
 use Rattle.turns.specs.declared.run.RunPhase.TheVariants.{New, Running, Suspended, Over}
 use Rattle.turns.specs.declared.run.Side.{Side}
+use Rattle.turns.specs.declared.run.Side.TheVariants.{Source, Destination}
 use Rattle.turns.specs.Run.{AreComplete, CopiesAll, CopiesUpTo, Copy, Here, IsDue, IsTurn, SinkState, Snapshot, Task, all_blocks, among, gets_of, here, lines_of, memory_of, opposite, puts_of, turn_lines}
 use Rattle.turns.specs.Run.Stage.{Title, Turn, Begin, Resume, GiveUp, End}
 use Rattle.turns.proofs.RunLaws.{went_more, went_none, went_sent}
@@ -27,8 +28,8 @@ use Rattle.session.specs.Copies.{CopiesTo, HandsOver, SamePlace, both}
 use Rattle.session.specs.Lanes.{HaveWindows}
 use Rattle.session.specs.Shelves.{IsNamespaceOf}
 use Rattle.session.specs.Place.{AreAllDone, AreQuiet, DoesTurn, IsPlaceOf, IsReady, PlaceState, StandsFor, StandsOn, pages_of, serial}
-use Rattle.session.specs.Sides.{Goes, GoesTo, IsAhead, IsDueAfter, IsMoveDue, SessionState, Sides, StandsAs, less_one, machine_of, sides}
-use Rattle.session.proofs.MemoryLemmas.{same_pages, same_windows, whole_memory}
+use Rattle.session.specs.Sides.{Goes, GoesTo, IsAhead, IsDueAfter, IsMoveDue, IsOnward, SessionState, Sides, StandsAs, at_side, by_side, less_one, machine_of, sides}
+use Rattle.session.proofs.MemoryLemmas.{have_pages, same_pages, same_windows, whole_memory}
 use Rattle.session.proofs.ShelvesLemmas.{same_namespace}
 use Rattle.session.proofs.RestLemmas.{complete_is, done_is}
 
@@ -42,6 +43,14 @@ goes_more a b t stands =
     let first = a t stands in
     let second = b first.end first.stands in
     record { end = second.end; went = went_more first.went second.went; stands = second.stands }
+
+pub onward_more : {M : Type 0} {old mid new : SessionState} {at to : PlaceState M} → IsOnward old mid at → IsOnward mid new to → IsOnward old new to
+onward_more a b = record {
+  script = b.script ∙ a.script;
+  side = b.side ∙ a.side;
+  ahead = (λ none. b.ahead.0 (a.ahead.0 none), λ none. a.ahead.1 (b.ahead.1 none));
+  running = b.running;
+}
 
 -- a text went out from where the run stood
 sent_from : {T E : Type 0} {text : List ℕ} {at out sent : SinkState} {result : Result T E} → at ≡ out → Writes text out.taken sent.taken out.faults sent.faults result → Writes text at.taken sent.taken at.faults sent.faults result
@@ -225,13 +234,15 @@ lanes_after {M} s {old} {at} lanes same stands =
 -- the run goes on at the other side
 pub goes_resume : {M I T E : Type 0} {state : M → MediumState I} {moves : I → Step → Bool → I → Type 0} {s : SessionState} {old_at old_to at to new_at new_to : PlaceState M} {out sent : SinkState} {result : Result T E} →
     s.phase ≡ Suspended → IsReady s.script (machine_of s at) → IsPlaceOf s.script to → CopiesTo state moves (all_blocks s.script) (both old_at old_to) false (both at to) →
-    HandsOver (both at to) (both new_at new_to) → Writes (text_of (line.Pause s.script.head.blocks (window_pages s.script.head) ∷ line.ResumeTo ∷ [])) out.taken sent.taken out.faults sent.faults result →
+    HandsOver (both at to) (both new_at new_to) → (pages : ℕ) → pages ≡ length (all_pages new_to.windows) → Writes (text_of (line.Pause s.script.head.blocks pages ∷ line.ResumeTo ∷ [])) out.taken sent.taken out.faults sent.faults result →
     Goes state moves (sides s old_at old_to out) (is_err result) (sides (record s { phase = Running; side = opposite s.side }) new_to new_at sent)
-goes_resume {M} {I} {T} {E} {state} {moves} {s} {old_at} {old_to} {at} {to} {new_at} {new_to} {out} {sent} {result} was ready place copies handed written t stands =
+goes_resume {M} {I} {T} {E} {state} {moves} {s} {old_at} {old_to} {at} {to} {new_at} {new_to} {out} {sent} {result} was ready place copies handed pages pages_are written t stands =
+    let all = pages_are ∙ have_pages ready.script.head (same_windows place.windows handed.shape) in
     let shelf = shelf_is s t stands.task ready.place copies.from in
     let after = lanes_after s t.lanes copies.from stands.lanes.lanes in
     let text : Writes (text_of (lines_of t.task.script (Resume t.side copies.copies))) out.taken sent.taken out.faults sent.faults result =
-    subst (λ (k : Task). Writes (text_of (lines_of k.script (Resume t.side copies.copies))) out.taken sent.taken out.faults sent.faults result) (sym stands.task) written in
+    subst (λ (k : Task). Writes (text_of (lines_of k.script (Resume t.side copies.copies))) out.taken sent.taken out.faults sent.faults result) (sym stands.task)
+    (subst (λ (n : ℕ). Writes (text_of (line.Pause s.script.head.blocks n ∷ line.ResumeTo ∷ [])) out.taken sent.taken out.faults sent.faults result) all written) in
     record {
       end = record t { phase = Running; side = opposite t.side; at = media_of new_to.namespace; other = media_of new_at.namespace; left = memory_of t.task.script t.lanes; out = sent };
       went = went_sent (Resume t.side copies.copies) (record {
@@ -283,3 +294,15 @@ goes_stay {M} {state = state} {moves} {s = s} {at = at} {to = to} {sent = sent} 
         out = refl;
       };
     }
+
+-- What was said of a session and two places, said of the source and the destination.
+
+pub on_source : {M I : Type 0} {state : M → MediumState I} {moves : I → Step → Bool → I → Type 0} {old new : SessionState} {from to new_from new_to : PlaceState M} {out sent : SinkState} {failed : Bool} → new.side ≡ Source →
+    Goes state moves (sides old from to out) failed (sides new new_from new_to sent) → Goes state moves (sides old from to out) failed (by_side new new_from new_to sent)
+on_source {M} {state = state} {moves} {old} {new} {from} {to} {new_from} {new_to} {out} {sent} {failed} is goes =
+    subst (λ (side : Side). Goes state moves (sides old from to out) failed (at_side side (sides new new_from new_to sent) (sides new new_to new_from sent))) (sym is) goes
+
+pub on_destination : {M I : Type 0} {state : M → MediumState I} {moves : I → Step → Bool → I → Type 0} {old new : SessionState} {from to new_from new_to : PlaceState M} {out sent : SinkState} {failed : Bool} → new.side ≡ Destination →
+    Goes state moves (sides old from to out) failed (sides new new_to new_from sent) → Goes state moves (sides old from to out) failed (by_side new new_from new_to sent)
+on_destination {M} {state = state} {moves} {old} {new} {from} {to} {new_from} {new_to} {out} {sent} {failed} is goes =
+    subst (λ (side : Side). Goes state moves (sides old from to out) failed (at_side side (sides new new_from new_to sent) (sides new new_to new_from sent))) (sym is) goes

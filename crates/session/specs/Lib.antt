@@ -1,10 +1,10 @@
+pub mod Copies
 pub mod LaneParts
 pub mod Lanes
 pub mod Phases
 pub mod Place
 pub mod Seats
 pub mod Shelves
-pub mod Work
 pub mod Sides
-pub mod Copies
 pub mod Waiting
+pub mod Work

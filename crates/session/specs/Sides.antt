@@ -116,12 +116,12 @@ IsMoved Done new at to = (new.side ≡ Destination) × IsRunning new to
 IsMoved GaveUp new at to = (new.side ≡ Source) × IsRunning new at
 
 -- the sides by the one on which a session stands
+abbrev pub at_side : {X : Type 0} → Side → X → X → X
+at_side Source source destination = source
+at_side Destination source destination = destination
+
 abbrev pub by_side : {M : Type 0} → SessionState → PlaceState M → PlaceState M → SinkState → Sides M
-by_side {M} s from to out = of s.side
-  where
-    of : Side → Sides M
-    of Source = sides s from to out
-    of Destination = sides s to from out
+by_side s from to out = at_side s.side (sides s from to out) (sides s to from out)
 
 abbrev pub IsEnding : Option ℕ → Side → Ending → Type 0
 IsEnding None side Done = Unit {0}

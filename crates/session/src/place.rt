@@ -1,11 +1,28 @@
-ghost use Rattle.std.specs.Prelude.{◌≡◌};
+ghost use Rattle.std.specs.Prelude.{◌≡◌, ◌+◌, ◌*◌, ◌/◌, ◌≤◌, [], length, vec_capacity, vec_len};
+ghost use Rattle.nvm_model.specs.ScriptText.{IsHead};
+ghost use Rattle.nvm_model.specs.Turn.{Plans, PostsAll};
+ghost use Rattle.nvm_model.specs.World.{Lane};
+ghost use Rattle.nvm_blocks.specs.Namespace.{IsForNamespace, block_count};
+ghost use Rattle.guest_ram.specs.Window.{data_pages};
+ghost use Rattle.hall.specs.Plan.{pieces_of};
+ghost use Rattle.controller.specs.Pair.{pair_of};
+ghost use Rattle.session.specs.LaneParts.{HasMore, Leads};
+ghost use Rattle.session.specs.Lanes.{IsPlanned, IsRunOf, window_of};
+ghost use Rattle.session.specs.Phases.{FitPlan, IsSameButPieces};
+ghost use Rattle.session.specs.Seats.{DoesPieceAt, HasRooms, HasSeat, IsSameButSeat, Sits};
+ghost use Rattle.session.specs.Work.{MayPost};
 
 mod moving;
 
+use crate::LaneRun;
+use crate::plan::plan_lane;
+use crate::posts::post_lane;
 use controller::Controller;
 use guest_ram::Ram;
+use hall::Plan;
 use mig_medium::Medium;
 use nvm_blocks::Namespace;
+use nvm_model::{Line, Piece, PieceResult, Script};
 use std::marker::Model;
 
 /// One side of a run: its media in shelves, its guests' memory, and its controller.
@@ -34,5 +51,68 @@ impl<M: Medium> Place<M> {
             ram,
             controller,
         }
+    }
+
+    /// Its parts.
+    pub fn shut(self) -> (Namespace<M>, Ram, Controller)
+        ensures { result ≡ (self.namespace, self.windows, self.controller) }
+    {
+        (self.namespace, self.ram, self.controller)
+    }
+
+    /// Plans a lane's turn: its guest reaps and acts, and the controller fetches.
+    pub(crate) fn plan(
+        &mut self,
+        script: &Script,
+        run: &mut LaneRun,
+        plan: &mut Plan,
+        events: &mut Vec<Line>,
+    )
+        requires seat { HasSeat script.now run.old self.old }
+        requires none { ((pair_of self.old.controller run.old.script.lane).commands ≡ []) × (run.old.results.items ≡ []) }
+        requires plan { FitPlan script.now plan.old × (pieces_of plan.old run.old.script.lane ≡ []) }
+        requires room { vec_len events.old + 384 ≤ vec_capacity events.old }
+        ensures leads { (l : Lane) → Sits script.now run.old.script.lane run.old self.old l
+            → Leads (Plans script.now run.old.script.lane) (Sits script.now run.old.script.lane run.new self.new) l events.old.items events.new.items }
+        ensures run { IsRunOf script.now run.old.script.lane run.new × (run.new.results.items ≡ []) }
+        ensures seat { IsSameButSeat run.old.script.lane self.old self.new }
+        ensures planned { IsPlanned script.now run.old.script.lane plan.new (pair_of self.new.controller run.old.script.lane) }
+        ensures pieces { IsSameButPieces run.old.script.lane plan.old plan.new }
+        ensures more { HasMore 384 events.old events.new }
+    {
+        let at = usize::from(run.script.lane.get()) - 1;
+        let windows = self.ram.windows();
+        plan_lane(script, run, &mut self.controller, &mut windows[at], plan, events);
+    }
+
+    /// Does a piece, the one of this number of its lane's. Its media's shelves have room for its entry.
+    pub(crate) fn piece(&mut self, piece: &Piece, index: u32) -> PieceResult
+        requires lane { piece.now.lane ≤ length self.old.windows }
+        requires piece { IsForNamespace self.old.namespace (length (data_pages (window_of self.old.windows piece.now.lane))) piece.now }
+        requires rooms { HasRooms self.old.namespace }
+        ensures { DoesPieceAt M.state M.moves piece.now result self.old self.new }
+    {
+        self.namespace.clear();
+        let at = usize::from(piece.lane.get()) - 1;
+        let windows = self.ram.windows();
+        self.controller
+            .serve_serial(piece, index, 0, &mut self.namespace, &mut windows[at])
+    }
+
+    /// Posts the completions of a lane's fetched commands, whose pieces are all done.
+    pub(crate) fn post(&mut self, script: &Script, run: &mut LaneRun, events: &mut Vec<Line>)
+        requires seat { HasSeat script.now run.old self.old }
+        requires done { MayPost script.now run.old.script.lane run.old (pair_of self.old.controller run.old.script.lane) }
+        requires room { vec_len events.old + 64 ≤ vec_capacity events.old }
+        ensures leads { (l : Lane) → Sits script.now run.old.script.lane run.old self.old l
+            → Leads (PostsAll script.now run.old.script.lane) (Sits script.now run.old.script.lane run.new self.new) l events.old.items events.new.items }
+        ensures run { IsRunOf script.now run.old.script.lane run.new × (run.new.results.items ≡ []) }
+        ensures none { (pair_of self.new.controller run.old.script.lane).commands ≡ [] }
+        ensures seat { IsSameButSeat run.old.script.lane self.old self.new }
+        ensures more { HasMore 64 events.old events.new }
+    {
+        let at = usize::from(run.script.lane.get()) - 1;
+        let windows = self.ram.windows();
+        post_lane(script, run, &mut self.controller, &mut windows[at], events);
     }
 }

@@ -1,9 +1,12 @@
-// STUB
+// One turn on one thread: a list of events, whose lines are written after it.
 ghost use Rattle.std.specs.Prelude.{◌<◌, IsTrue};
 ghost use Rattle.turns.specs.Run.{Here};
 ghost use Rattle.session.specs.Phases.{HasRoom};
 ghost use Rattle.session.specs.Place.{AreAllDone, AreRunsOf, DoesTurn, IsReady, StandsOn, machine, total_work};
 
+use crate::pieces::do_pieces;
+use crate::plan::plan_all;
+use crate::posts::post_all;
 use crate::{LaneRun, Order, Place};
 use hall::Plan;
 use mig_medium::Medium;
@@ -18,9 +21,16 @@ pub(crate) fn are_all_done(script: &Script, runs: &Vec<LaneRun>) -> bool
     ensures done { IsTrue result → AreAllDone script.now runs.now.items }
     ensures not { AreAllDone script.now runs.now.items → IsTrue result }
 {
+    for run in runs {
+        if !run.is_complete() {
+            return false;
+        }
+    }
     true
 }
 
+/// Does a turn of lanes that aren't all complete: each guest reaps and acts and the controller fetches; the pieces are
+/// done; the completions are posted. The events stand in their room then.
 pub(crate) fn do_turn<M: Medium>(
     script: &Script,
     runs: &mut Vec<LaneRun>,
@@ -38,4 +48,9 @@ pub(crate) fn do_turn<M: Medium>(
     ensures less { total_work 1 runs.new.items place.new.controller < total_work 1 runs.old.items place.old.controller }
     ensures room { HasRoom script.now plan.new events.new }
 {
+    events.clear();
+    plan.clear();
+    plan_all(script, runs, plan, events, place);
+    do_pieces(script, runs, order, plan, events, place);
+    post_all(script, runs, plan, events, place);
 }

@@ -1,11 +1,11 @@
 // The stages of a run. Each does its effect, and then its lines go out.
-ghost use Rattle.std.specs.Prelude.{◌≡◌, true, false, is_err, IfOk, None};
+ghost use Rattle.std.specs.Prelude.{◌≡◌, ◌<◌, true, false, is_err, IfOk, None};
 ghost use Rattle.turns.specs.declared.run.Side.TheVariants.{Source};
 ghost use Rattle.session.specs.declared.session.Next.TheVariants.{Turn, End};
 ghost use Rattle.turns.specs.declared.run.RunPhase.TheVariants.{New, Running, Suspended, Over};
 ghost use Rattle.turns.specs.Run.{all_blocks, opposite};
 ghost use Rattle.session.specs.declared.ending.Ending.TheVariants.{Done, GaveUp};
-ghost use Rattle.session.specs.Place.{AreAllDone, IsPlaceOf, IsReady, PlaceState};
+ghost use Rattle.session.specs.Place.{IsPlaceOf, IsReady, PlaceState, total_work};
 ghost use Rattle.session.specs.Copies.{CopiesTo, both};
 ghost use Rattle.session.specs.Sides.{Goes, IsMoveDue, IsMoved, by_side, less_one, IsNext, IsOnward, IsRunning, IsStop, machine_of, sides, sink};
 
@@ -51,6 +51,7 @@ impl Session {
             (sides self.old at.old other (sink (K.bytes out.old) (K.faults out.old))) (is_err result)
             (sides self.new at.new other (sink (K.bytes out.new) (K.faults out.new))) }
         ensures onward { IsOnward self.old self.new at.new }
+        ensures less { total_work 1 self.new.runs at.new.controller < total_work 1 self.old.runs at.old.controller }
     {
         do_turn(
             &self.script,
@@ -123,10 +124,7 @@ impl Session {
     {
         at.hand_over(to);
         self.phase = RunPhase::Running;
-        self.side = match self.side {
-            Side::Source => Side::Destination,
-            Side::Destination => Side::Source,
-        };
+        self.side = other_side(self.side);
         let lines = [
             Line::Pause {
                 blocks: self.script.head.blocks,
@@ -200,6 +198,16 @@ impl Session {
         self.phase = RunPhase::Over;
         self.text.write(&[Line::End], out)?;
         Ok(ending)
+    }
+}
+
+/// The other side.
+fn other_side(side: Side) -> Side
+    ensures { result ≡ opposite side }
+{
+    match side {
+        Side::Source => Side::Destination,
+        Side::Destination => Side::Source,
     }
 }
 

@@ -14,15 +14,18 @@ returns-in_err-write-clause-went g c =
     let p = err_from_is_err_and c.from_residual.result c.from_residual.ensures.1 in
     let ready = subst (λ (s : SessionState). IsReady s.script (machine_of s c.args.at.now)) (sym c.self.view_is) c.requires.ready in
     let place = subst (λ (s : SessionState). IsPlaceOf s.script c.args.to.now) (sym c.self.view_is) c.requires.place in
-    rw (p.1, ← c.self.view_is) λ old_at old_to copies.
-    goes_resume (ap (λ (s : SessionState). s.phase) c.self.view_is ∙ c.requires.was) ready place copies c.hand_over.ensures ?
+    rw (p.1, c.other_side-self-inside.ensures, ← c.self.view_is) λ old_at old_to copies.
+    goes_resume (ap (λ (s : SessionState). s.phase) c.self.view_is ∙ c.requires.was) ready place copies c.hand_over.ensures c.page_count.result c.page_count.ensures c.in_err-write.ensures
 
 pub returns-clause-went : goal.returns-clause-went
 returns-clause-went g c =
     let ready = subst (λ (s : SessionState). IsReady s.script (machine_of s c.args.at.now)) (sym c.self.view_is) c.requires.ready in
     let place = subst (λ (s : SessionState). IsPlaceOf s.script c.args.to.now) (sym c.self.view_is) c.requires.place in
-    rw (← c.self.view_is) λ old_at old_to copies.
-    goes_resume (ap (λ (s : SessionState). s.phase) c.self.view_is ∙ c.requires.was) ready place copies c.hand_over.ensures ?
+    rw (c.other_side-self-inside.ensures, ← c.self.view_is) λ old_at old_to copies.
+    goes_resume (ap (λ (s : SessionState). s.phase) c.self.view_is ∙ c.requires.was) ready place copies c.hand_over.ensures c.page_count.result c.page_count.ensures c.in_ok-write.ensures
 
 pub returns-clause-moved : goal.returns-clause-moved
-returns-clause-moved g c = ?
+returns-clause-moved g c =
+    let ready = subst (λ (s : SessionState). IsReady s.script (machine_of s c.args.at.now)) (sym c.self.view_is) c.requires.ready in
+    let place = subst (λ (s : SessionState). IsPlaceOf s.script c.args.to.now) (sym c.self.view_is) c.requires.place in
+    rw (c.other_side-self-inside.ensures, ← c.self.view_is) (refl, record { phase = refl; ready = ready_there (record { script = c.self.inside.script; runs = c.self.inside.runs.items; order = c.self.inside.order; ahead = c.self.inside.ahead; phase = c.self.inside.phase; side = c.self.inside.side }) ready place c.hand_over.ensures }, refl)

@@ -1,0 +1,23 @@
+use Rattle.std.proofs.Common.{◌≡◌, ◌*◌, ◌-◌, ◌≤◌, ◌<◌, ℕ, List, [], slice_index_or}
+use Rattle.nvm_model.specs.Turn.{PostsAll}
+use Rattle.nvm_model.specs.World.{Lane}
+use Rattle.controller.specs.Pair.{pair_of}
+use Rattle.session.specs.declared.lane_run.LaneRun.{LaneRun}
+use Rattle.session.specs.LaneParts.{HasMore, Leads}
+use Rattle.session.specs.Phases.{Fit}
+use Rattle.session.specs.Place.{StandsFor}
+use Rattle.session.specs.Work.{MayPost}
+use Rattle.session.proofs.AllLanesLemmas.{SoFar}
+use Rattle.session.proofs.posts.post_all.Given as goal
+
+abbrev pub invariant-loop-at : goal.invariant-loop-at
+invariant-loop-at g l = record {
+  leads : (lanes : List Lane) → StandsFor l.script l.fn.runs.items l.fn.place.controller l.fn.place.windows lanes
+      → Leads (SoFar (PostsAll l.script) l.at) (StandsFor l.script l.runs.items l.place.controller l.place.windows) lanes l.fn.events.items l.events.items;
+  fit : Fit l.script l.runs.items l.place;
+  may : (k : ℕ) (d : LaneRun) → 1 ≤ k → k ≤ l.script.head.lanes → l.at < k → MayPost l.script k (slice_index_or l.runs.items (k - 1) d) (pair_of l.place.controller k);
+  commands : (k : ℕ) → 1 ≤ k → k ≤ l.script.head.lanes → k ≤ l.at → (pair_of l.place.controller k).commands ≡ [];
+  results : (k : ℕ) (d : LaneRun) → 1 ≤ k → k ≤ l.script.head.lanes → k ≤ l.at → (slice_index_or l.runs.items (k - 1) d).results.items ≡ [];
+  namespace : l.place.namespace ≡ l.fn.place.namespace;
+  more : HasMore (64 * l.at) l.fn.events l.events;
+}

@@ -1,0 +1,15 @@
+use Rattle.std.proofs.Common.{rules}
+use Rattle.std.proofs.lemmas.Result.{err_from_is_err_and}
+use Rattle.session.proofs.StageLemmas.{goes_more, onward_more}
+use Rattle.session.proofs.session.Session.turns.Goals as goal
+
+pub turns-preserved : goal.turns-preserved
+turns-preserved g c = record {
+  went = λ other. goes_more (c.turns.invariant.went other) (c.in_ok-turn-in-Turn.ensures.went other);
+  onward = onward_more c.turns.invariant.onward c.in_ok-turn-in-Turn.ensures.onward;
+}
+
+pub returns-in_err-turn-in-Turn-clause-went : goal.returns-in_err-turn-in-Turn-clause-went
+returns-in_err-turn-in-Turn-clause-went g c =
+    let p = err_from_is_err_and c.from_residual.result c.from_residual.ensures.1 in
+    rw p.1 (λ other. goes_more (c.turns.invariant.went other) (c.in_err-turn-in-Turn.ensures.went other))

@@ -1,0 +1,43 @@
+use Rattle.std.proofs.Common.{List, [], subst, arith}
+use Rattle.nvm_model.specs.declared.line.Line.{Line}
+use Rattle.nvm_model.specs.Turn.{InLanes, Plans}
+use Rattle.session.specs.LaneParts.{Leads}
+use Rattle.session.specs.Place.{StandsFor, machine}
+use Rattle.session.proofs.TurnLemmas.{Phases, less_after, ready_after, turn_by_phases}
+use Rattle.session.proofs.WorkLemmas.{none_is_left}
+use Rattle.session.proofs.turn.do_turn.Given.{Over}
+use Rattle.session.proofs.turn.do_turn.Goals as goal
+
+-- what the phases came to
+phases : (g : Over) → (c : goal.After-post_all g) → Phases g.M.Medium.state g.M.Medium.moves c.args.script.now (machine c.args.runs.now.items c.args.order.now c.args.place.now) (machine c.post_all.new.runs.items c.do_pieces.new.order c.post_all.new.place) c.post_all.new.events.items
+phases g c =
+    let s = c.args.script.now in
+    record {
+      ready = c.requires.ready;
+      due = c.requires.due;
+      planned_runs = c.plan_all.new.runs.items;
+      planned_place = c.plan_all.new.place;
+      planned_events = c.plan_all.new.events.items;
+      plan = λ lanes stands. subst (λ (es : List Line). Leads (InLanes (Plans s) 1) (StandsFor s c.plan_all.new.runs.items c.plan_all.new.place.controller c.plan_all.new.place.windows) lanes es c.plan_all.new.events.items)
+          c.clear.ensures.items (c.plan_all.ensures.leads lanes stands);
+      plan_kept = c.plan_all.ensures.namespace;
+      worked_runs = c.do_pieces.new.runs.items;
+      worked_place = c.do_pieces.new.place;
+      worked_events = c.do_pieces.new.events.items;
+      works = c.do_pieces.ensures.works;
+      finished = λ lanes stands. none_is_left c.do_pieces.ensures.has c.do_pieces.ensures.done stands;
+      posts = c.post_all.ensures.leads;
+      posts_kept = c.post_all.ensures.namespace;
+      fit = c.post_all.ensures.fit;
+      quiet = c.post_all.ensures.quiet;
+      mix = c.do_pieces.ensures.mix;
+    }
+
+pub returns-clause-turn : goal.returns-clause-turn
+returns-clause-turn g c = λ h stands. turn_by_phases (phases g c) h stands
+
+pub returns-clause-ready : goal.returns-clause-ready
+returns-clause-ready g c = ready_after (phases g c)
+
+pub returns-clause-less : goal.returns-clause-less
+returns-clause-less g c = less_after (phases g c)
