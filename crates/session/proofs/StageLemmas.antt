@@ -22,13 +22,14 @@ use Rattle.turns.specs.declared.run.Side.TheVariants.{Source, Destination}
 use Rattle.turns.specs.Run.{AreComplete, CopiesAll, CopiesUpTo, Copy, Here, IsDue, IsTurn, SinkState, Snapshot, Task, all_blocks, among, gets_of, here, lines_of, memory_of, opposite, puts_of, turn_lines}
 use Rattle.turns.specs.Run.Stage.{Title, Turn, Begin, Resume, GiveUp, End}
 use Rattle.turns.proofs.RunLaws.{went_more, went_none, went_sent}
+use Rattle.session.specs.declared.ending.Ending.TheVariants.{Done, GaveUp}
 use Rattle.session.specs.declared.lane_run.LaneRun.{LaneRun}
 use Rattle.session.specs.declared.order.Order.{Order}
 use Rattle.session.specs.Copies.{CopiesTo, HandsOver, SamePlace, both}
 use Rattle.session.specs.Lanes.{HaveWindows}
 use Rattle.session.specs.Shelves.{IsNamespaceOf}
 use Rattle.session.specs.Place.{AreAllDone, AreQuiet, DoesTurn, IsPlaceOf, IsReady, PlaceState, StandsFor, StandsOn, pages_of, serial}
-use Rattle.session.specs.Sides.{Goes, GoesTo, IsAhead, IsDueAfter, IsMoveDue, IsOnward, SessionState, Sides, StandsAs, at_side, by_side, less_one, machine_of, sides}
+use Rattle.session.specs.Sides.{Goes, GoesTo, IsAhead, IsDueAfter, IsEnding, IsMoveDue, IsOnward, SessionState, Sides, StandsAs, at_side, by_side, less_one, machine_of, sides, turns_ahead}
 use Rattle.session.proofs.MemoryLemmas.{have_pages, same_pages, same_windows, whole_memory}
 use Rattle.session.proofs.ShelvesLemmas.{same_namespace}
 use Rattle.session.proofs.RestLemmas.{complete_is, done_is}
@@ -306,3 +307,28 @@ pub on_destination : {M I : Type 0} {state : M → MediumState I} {moves : I →
     Goes state moves (sides old from to out) failed (sides new new_to new_from sent) → Goes state moves (sides old from to out) failed (by_side new new_from new_to sent)
 on_destination {M} {state = state} {moves} {old} {new} {from} {to} {new_from} {new_to} {out} {sent} {failed} is goes =
     subst (λ (side : Side). Goes state moves (sides old from to out) failed (at_side side (sides new new_from new_to sent) (sides new new_to new_from sent))) (sym is) goes
+
+-- How a run ends.
+
+-- a script that asks for no migration
+pub none_asked : (asked : Option ℕ) (side : Side) → turns_ahead asked ≡ None → IsEnding asked side Done
+none_asked None side is = tt
+none_asked (Some turn) side is = absurd cc
+
+-- one that asks for one, after which the guests are there, or here
+pub asked_there : (asked : Option ℕ) → (turns_ahead asked ≡ None → ⊥) → IsEnding asked Destination Done
+asked_there None some = absurd (some refl)
+asked_there (Some turn) some = tt
+
+pub asked_here : (asked : Option ℕ) → (turns_ahead asked ≡ None → ⊥) → IsEnding asked Source GaveUp
+asked_here None some = absurd (some refl)
+asked_here (Some turn) some = tt
+
+-- where all is done and no migration is due, none is asked for any more
+pub none_ahead : (ahead : Option ℕ) {P : Type 0} → P → (IsDueAfter ahead P → ⊥) → ahead ≡ None
+none_ahead None done not = refl
+none_ahead (Some n) done not = absurd (not (inr done))
+
+pub some_ahead : (ahead : Option ℕ) {P : Type 0} → IsDueAfter ahead P → ahead ≡ None → ⊥
+some_ahead None due is = due
+some_ahead (Some n) due is = absurd cc

@@ -115,6 +115,11 @@ abbrev pub IsMoved : {M : Type 0} → Ending → SessionState → PlaceState M �
 IsMoved Done new at to = (new.side ≡ Destination) × IsRunning new to
 IsMoved GaveUp new at to = (new.side ≡ Source) × IsRunning new at
 
+-- the migration that was asked for was begun
+pub record HasBegun (old new : SessionState) : Type 0 where
+  pub script : new.script ≡ old.script
+  pub ahead : new.ahead ≡ None
+
 -- the sides by the one on which a session stands
 abbrev pub at_side : {X : Type 0} → Side → X → X → X
 at_side Source source destination = source

@@ -50,7 +50,7 @@ fn finish<M: Medium, K: Sink>(
         (sides session.old at.old other (sink (K.bytes out.old) (K.faults out.old))) (is_err result)
         (sides session.new at.new other (sink (K.bytes out.new) (K.faults out.new))) }
     ensures ended { IfOk result (λ e. (e ≡ ending) × (session.new.phase ≡ Over)) }
-    ensures side { session.new.side ≡ session.old.side }
+    ensures kept { (session.new.script ≡ session.old.script) × (session.new.side ≡ session.old.side) }
 {
     session.turns(at, out)?;
     session.end(at, ending, out)

@@ -1,5 +1,5 @@
-use Rattle.std.proofs.Common.{◌≡◌, ℕ, zero, suc, ◌+◌, ◌*◌, ◌<◌, ◌≤◌, Bool, true, false, List, [], ◌∷◌, ◌++◌, Option, Some, length, map, take, get_or, set, refl, sym, ap, subst, ◌∙◌, arith}
-use Rattle.std.specs.List.{All, flat_map, range_with_len}
+use Rattle.std.proofs.Common.{◌≡◌, ℕ, zero, suc, ◌+◌, ◌*◌, ◌<◌, Bool, List, [], ◌∷◌, ◌++◌, Option, length, map, take, set, refl, sym, ap, subst, ◌∙◌, arith}
+use Rattle.std.specs.List.{flat_map, range_with_len}
 use Rattle.std.specs.Option.{IfSome}
 use Rattle.std.proofs.lemmas.List.{length-map, length-set, take_all, take_more, take_more_set}
 use Rattle.std.proofs.lemmas.List.Elements.{All-map}
@@ -8,11 +8,11 @@ use Rattle.nvm_model.specs.declared.trace.Step.{Step}
 use Rattle.nvm_model.specs.Chain.{Chain}
 use Rattle.nvm_model.specs.Medium.{At, IsAt, MediumState, told_in}
 use Rattle.nvm_model.specs.Piece.{block_at}
-use Rattle.nvm_model.specs.Shelf.{joined}
 use Rattle.nvm_model.proofs.MediaLemmas.{length_joined}
 use Rattle.turns.specs.Run.{AllCopied, CopiesAll, Copy, CopyEnd, gets_of, puts_of}
 use Rattle.turns.specs.Run.CopyEnd.{Copied, NotRead, NotWritten}
 use Rattle.turns.specs.Told.{Tell}
+use Rattle.turns.proofs.MediaLaws.{the_copy}
 use Rattle.turns.proofs.PieceLaws.{Blocks, Flat, calls_told, place_is}
 
 -- Copies over media that tell their blocks: where all were made both sides hold the same.
@@ -24,9 +24,6 @@ told_length {M} state h media blocks t =
     let all = length_joined h.shelf (told_in state media) (All-map (λ (o : Option Blocks). IfSome o (λ (bs : Blocks). length bs ≡ h.shelf)) told media (λ k d l. (t.sizes k d l).told)) in
     subst (λ (o : Option Blocks). IfSome o (λ (bs : Blocks). length bs ≡ length (told_in state media) * h.shelf)) t.told all
     ∙ ap (λ (n : ℕ). n * h.shelf) (length-map media told) ∙ t.count
-
-abbrev the_copy : ℕ → List ℕ → CopyEnd → Copy
-the_copy b bytes ended = record { block = b; bytes = bytes; ended = ended }
 
 -- Gets leave the blocks.
 

@@ -1,4 +1,4 @@
-use Rattle.std.proofs.Common.{◌≡◌, ℕ, ◌+◌, ◌-◌, ◌<◌, ⊎_elim, List, [], ◌∷◌, ◌++◌, Option, Some, length, slice_get, slice_index_or, drop, refl, sym, ap, subst, ◌∙◌, arith}
+use Rattle.std.proofs.Common.{◌≡◌, ℕ, ◌+◌, ◌-◌, ◌<◌, ⊎_elim, List, [], ◌∷◌, ◌++◌, length, slice_index_or, drop, refl, sym, ap, subst, ◌∙◌, arith}
 use Rattle.std.specs.List.{AllByRecursion}
 use Rattle.std.proofs.lemmas.List.{append_assoc}
 use Rattle.std.proofs.lemmas.Option.{slice_get_within, get_or_from_slice_get}
@@ -8,13 +8,13 @@ use Rattle.nvm_model.specs.declared.command.Completion.{Completion}
 use Rattle.nvm_model.specs.declared.line.Line.{Line}
 use Rattle.nvm_model.specs.declared.line.Line.TheVariants as line
 use Rattle.nvm_model.specs.declared.script.Script.{Script}
-use Rattle.nvm_model.specs.Event.{DoesAct, Fetches, LaneStep, One, Posts, Reaps, lane_number}
+use Rattle.nvm_model.specs.Event.{DoesAct, LaneStep, One, Reaps, lane_number}
 use Rattle.nvm_model.specs.History.{Steps}
 use Rattle.nvm_model.specs.Piece.{pieces_left}
 use Rattle.nvm_model.specs.Turn.{Kind, Reap, Act, Fetch, Piece, Post, IsKind, AreOf, LaneEvents, ReapsAll, ActsOn, FetchesOn, PostsAll, Plans, InLanes, Works, Turn, Turns, pieces_in, events_in}
 use Rattle.nvm_model.specs.World.{Lane, World, lane_of, new_lane}
 use Rattle.turns.proofs.FrameLemmas.{no_first}
-use Rattle.turns.proofs.EventLaws.{some_left, one_lane_step, one_next, one_end}
+use Rattle.turns.proofs.EventLaws.{some_left, one_lane_step, one_end}
 
 -- Events can be cut into turns in one way only: each part of a turn ends where no further event of its kind may come.
 

@@ -1,9 +1,8 @@
-use Rattle.std.proofs.Common.{◌≡◌, ℕ, ◌-◌, ◌<◌, ⊎_elim, List, [], ◌∷◌, Option, Some, All, length, slice_get, slice_index_or, slice_set, take, drop, refl, sym, ap, subst, ◌∙◌, arith}
+use Rattle.std.proofs.Common.{◌≡◌, ℕ, ◌-◌, ◌<◌, ⊎_elim, List, [], ◌∷◌, Option, Some, All, slice_get, take, drop, refl, sym, ap, subst, ◌∙◌, arith}
 use Rattle.std.proofs.lemmas.Bool.{cases_order}
 use Rattle.std.proofs.lemmas.List.{get_or-take, length-take-le}
 use Rattle.std.proofs.lemmas.List.Elements.{All-get_or}
 use Rattle.std.proofs.lemmas.Option.{slice_get_within, get_or_from_slice_get}
-use Rattle.nvm_values.specs.declared.sqe.Sqe.{Sqe}
 use Rattle.nvm_values.specs.Status.{StatusPair}
 use Rattle.nvm_model.specs.declared.command.Command.{Command}
 use Rattle.nvm_model.specs.declared.command.Completion.{Completion}
@@ -11,10 +10,8 @@ use Rattle.nvm_model.specs.declared.command.Outcome.{Outcome}
 use Rattle.nvm_model.specs.declared.command.Work.{Work}
 use Rattle.nvm_model.specs.declared.line.Line.{Line}
 use Rattle.nvm_model.specs.declared.line.Line.TheVariants as line
-use Rattle.nvm_model.specs.declared.script.Act.{Act}
 use Rattle.nvm_model.specs.declared.script.Script.{Script}
-use Rattle.nvm_model.specs.Check.{checked_command}
-use Rattle.nvm_model.specs.Event.{DoesAct, DoesPiece, DoesWork, Fetches, LaneStep, One, Posts, Reaps, lane_number}
+use Rattle.nvm_model.specs.Event.{DoesAct, DoesPiece, Fetches, LaneStep, One, Posts, Reaps, lane_number}
 use Rattle.nvm_model.specs.History.{Steps}
 use Rattle.nvm_model.specs.Piece.{piece_count, pieces_left}
 use Rattle.nvm_model.specs.World.{Lane, World, lane_of}

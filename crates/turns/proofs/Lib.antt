@@ -11,3 +11,13 @@ pub mod RunLaws
 pub mod PieceLaws
 pub mod CopyLaws
 pub mod ToldLaws
+pub mod LineLaws
+pub mod WholeLaws
+pub mod ScriptLaws
+pub mod RangeLaws
+pub mod DigestLaws
+pub mod EndLaws
+pub mod TextLaws
+pub mod OnwardLaws
+pub mod StopLaws
+pub mod RanLaws

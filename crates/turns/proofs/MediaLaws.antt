@@ -1,17 +1,15 @@
-use Rattle.std.proofs.Common.{◌≡◌, ℕ, ◌+◌, ◌*◌, ◌%◌, ◌/◌, ◌<◌, Bool, true, false, cond, List, [], ◌∷◌, ◌++◌, length, map, get_or, set, refl, sym, ap, subst, ◌∙◌, arith}
-use Rattle.std.specs.List.{AllByRecursion, flat_map}
+use Rattle.std.proofs.Common.{◌≡◌, ℕ, ◌+◌, ◌%◌, ◌/◌, Bool, cond, List, [], ◌∷◌, ◌++◌, length, map, get_or, refl, sym, ap, subst, ◌∙◌, arith}
+use Rattle.std.specs.List.{flat_map}
 use Rattle.std.proofs.lemmas.Grind.{flat_map-append}
 use Rattle.std.proofs.lemmas.List.{length-set}
 use Rattle.std.proofs.lemmas.List.Elements.{All-set}
 use Rattle.mig_base.specs.Count.{NeverFall, RiseBy}
 use Rattle.mig_base.proofs.CountLemmas.{never_both, never_more, never_stay, rise_left, rise_more, rise_none, rise_right}
-use Rattle.nvm_model.specs.declared.line.Line.{Line}
 use Rattle.nvm_model.specs.declared.script.Script.{Script}
 use Rattle.nvm_model.specs.declared.trace.Step.{Step}
 use Rattle.nvm_model.specs.Chain.{Chain}
 use Rattle.nvm_model.specs.History.{faults_shown, is_faulted}
 use Rattle.nvm_model.specs.Medium.{At, Call, HasSize, HaveSize, IsAt, MediumState, all_at, failures_in, faults_in}
-use Rattle.nvm_model.specs.Trace.{piece_calls}
 use Rattle.nvm_model.proofs.ChainLemmas.{chain_keeps, chain_more, chain_one}
 use Rattle.nvm_model.proofs.MediaLemmas.{call_size, counts_rise, failures_of}
 use Rattle.turns.specs.Run.{AllCopied, CopiesUpTo, Copy, CopyEnd, Here, IsPiece, IsStage, IsTurn, PieceCalled, Snapshot, Stage, Task, TurnDone, all_blocks, by_side, calls_at, gets_of, here, lines_in, lines_of, media_at, opposite, part_of, piece_line, puts_of, turn_calls, turn_lines}
@@ -157,7 +155,7 @@ turn_failed state moves task old t new r =
     omega (arith, faults_more t.plan (pieces ++ t.posts), faults_more pieces t.posts, plan.faults, posts.faults, pieces_failed state moves task (record old { lanes = r.planned }) t.pieces (record new { lanes = r.worked }) r.working)
 
 -- the calls of a copy: none failed, or one did
-abbrev the_copy : ℕ → List ℕ → CopyEnd → Copy
+abbrev pub the_copy : ℕ → List ℕ → CopyEnd → Copy
 the_copy b bytes ended = record { block = b; bytes = bytes; ended = ended }
 
 none_failed : (shelf b : ℕ) (bytes : List ℕ) (ended : CopyEnd) → ended ≡ Copied → (failed_in (gets_of shelf (the_copy b bytes ended)) ≡ 0) × (failed_in (puts_of shelf (the_copy b bytes ended)) ≡ 0)

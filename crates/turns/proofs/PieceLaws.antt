@@ -1,12 +1,9 @@
-use Rattle.std.proofs.Common.{◌≡◌, ℕ, ◌+◌, ◌*◌, ◌/◌, ◌%◌, Bool, List, [], ◌∷◌, ◌++◌, Option, Some, None, length, map, sum, refl, sym, ap, subst, ◌∙◌, arith}
+use Rattle.std.proofs.Common.{◌≡◌, ℕ, ◌+◌, ◌*◌, ◌/◌, ◌%◌, Bool, List, [], ◌∷◌, ◌++◌, Option, Some, None, length, map, refl, sym, ap, subst, ◌∙◌, arith}
 use Rattle.std.proofs.Math.Nat.{div-mul-le_self, mod-eq-sub-div-mul}
 use Rattle.std.specs.List.{AllByRecursion}
-use Rattle.std.proofs.lemmas.List.{length-map}
-use Rattle.std.proofs.lemmas.List.Elements.{All-map}
 use Rattle.std.proofs.lemmas.List.Sums.{sum_by-cons}
 use Rattle.nvm_values.specs.declared.op.Op.{Op}
 use Rattle.nvm_values.specs.declared.op.Op.TheVariants.{Flush, Write, Read, Compare, WriteZeroes, Verify}
-use Rattle.nvm_model.specs.declared.line.Line.{Line}
 use Rattle.nvm_model.specs.declared.piece.PieceResult.{PieceResult}
 use Rattle.nvm_model.specs.declared.script.Head.{Head}
 use Rattle.nvm_model.specs.declared.script.Script.{Script}
@@ -17,7 +14,7 @@ use Rattle.nvm_model.specs.History.{Steps}
 use Rattle.nvm_model.specs.Medium.{At, Effect, IsAt, MediumState, StayTold, flat_call, told_in}
 use Rattle.nvm_model.specs.Piece.{digest_after, done_blocks}
 use Rattle.nvm_model.specs.Shelf.{HasEffect, digest_bytes, joined}
-use Rattle.nvm_model.specs.Turn.{InOrder, IsKind, SerialTurn, lefts, next_lane, piece_number, pieces_in}
+use Rattle.nvm_model.specs.Turn.{InOrder, IsKind, SerialTurn, piece_number, pieces_in}
 use Rattle.nvm_model.specs.Turn.Kind.{Piece}
 use Rattle.nvm_model.specs.World.{Lane, World, lane_of}
 use Rattle.nvm_model.proofs.MediaLemmas.{flat_calls, piece_told}

@@ -122,7 +122,7 @@ early_start : (wish : Option ℕ) → IsTurnNumber wish → IsEarly wish 0
 early_start None is = tt
 early_start (Some turn) is = omega (arith, is.0)
 
-title : {M I : Type 0} {state : M → MediumState I} {s : Script} {blocks : Blocks} {old y : Snapshot M} → Tells state s blocks old → IsTitle old y → Untried state s blocks old y (line.Title ∷ line.Ready ∷ [])
+pub title : {M I : Type 0} {state : M → MediumState I} {s : Script} {blocks : Blocks} {old y : Snapshot M} → Tells state s blocks old → IsTitle old y → Untried state s blocks old y (line.Title ∷ line.Ready ∷ [])
 title {M} {I} {state} {s} {blocks} {old} {y} h r =
     let none : old.turns ≡ 0 = ap (λ (t : Snapshot M). t.turns) h.start in
     subst (λ (z : Snapshot M). Untried state s blocks old z (line.Title ∷ line.Ready ∷ [])) (sym r.after) (record {
@@ -144,14 +144,14 @@ title {M} {I} {state} {s} {blocks} {old} {y} h r =
 
 -- A turn.
 
-record NextTurn {M I : Type 0} (state : M → MediumState I) (s : Script) (x : Snapshot M) (t : TurnDone) (y : Snapshot M) (w : World) : Type 0 where
-  v : World
-  serial_turn : SerialTurn s x.drawn w (turn_lines t) v
-  lanes : y.lanes ≡ v.lanes
-  tells : Tell state s.head y.at v.blocks
-  drawn : y.drawn ≡ x.drawn + pieces_in (turn_lines t)
+pub record NextTurn {M I : Type 0} (state : M → MediumState I) (s : Script) (x : Snapshot M) (t : TurnDone) (y : Snapshot M) (w : World) : Type 0 where
+  pub v : World
+  pub serial_turn : SerialTurn s x.drawn w (turn_lines t) v
+  pub lanes : y.lanes ≡ v.lanes
+  pub tells : Tell state s.head y.at v.blocks
+  pub drawn : y.drawn ≡ x.drawn + pieces_in (turn_lines t)
 
-next_turn : {M I : Type 0} {state : M → MediumState I} {moves : I → Step → Bool → I → Type 0} {s : Script} {x : Snapshot M} {side : Side} {t : TurnDone} {y : Snapshot M} {w : World} → TakesTurn state moves x side t y → Stands state s x w → NextTurn state s x t y w
+pub next_turn : {M I : Type 0} {state : M → MediumState I} {moves : I → Step → Bool → I → Type 0} {s : Script} {x : Snapshot M} {side : Side} {t : TurnDone} {y : Snapshot M} {w : World} → TakesTurn state moves x side t y → Stands state s x w → NextTurn state s x t y w
 next_turn {M} {I} {state} {moves} {s} {x} {side} {t} {y} {w} r h =
     let told = turn_told state moves s (here x) t (here y) w.blocks (subst (λ (k : Task). IsTurn state moves k (here x) t (here y)) h.task r.turn) h.tells in
     record {
@@ -177,60 +177,68 @@ early_on x None untried asked not early = tt
 early_on x (Some turn) untried asked not early =
     ⊎_elim (λ is. absurd (not (record { untried = untried; turn = turn; asked = asked; when = inl is }))) (λ other. omega (arith, early, other)) (cases_eq (x.turns + 1) turn)
 
-untried_turn : {M I : Type 0} {state : M → MediumState I} {moves : I → Step → Bool → I → Type 0} {s : Script} {blocks : Blocks} {old x : Snapshot M} {side : Side} {t : TurnDone} {y : Snapshot M} {lines : List Line} →
-    TakesTurn state moves x side t y → Untried state s blocks old x lines → Untried state s blocks old y (lines ++ turn_lines t)
+pub untried_turn : {M I : Type 0} {state : M → MediumState I} {moves : I → Step → Bool → I → Type 0} {s : Script} {blocks : Blocks} {old x : Snapshot M} {side : Side} {t : TurnDone} {y : Snapshot M} {lines : List Line} →
+    TakesTurn state moves x side t y → (u : Untried state s blocks old x lines) → (v : Untried state s blocks old y (lines ++ turn_lines t)) × (v.turned.turns ≡ u.turned.turns ++ turn_lines t ∷ [])
 untried_turn {M} {I} {state} {moves} {s} {blocks} {old} {x} {side} {t} {y} {lines} r u =
     let f = u.turned in
     let n = next_turn r f.stands in
     let events = turn_lines t in
     let asked : x.task.script.head.migrate ≡ s.head.migrate = ap (λ (k : Task). k.script.head.migrate) f.stands.task in
-    subst (λ (z : Snapshot M). Untried state s blocks old z (lines ++ events)) (sym r.after) (record {
-      turned = record {
-        turns = f.turns ++ events ∷ [];
-        world = n.v;
-        are = turns_push s 0 x.drawn (start_world s.head blocks) f.turns f.world events n.v (omega (arith, f.drawn)) f.are n.serial_turn;
-        drawn = omega (arith, n.drawn, f.drawn, pieces_push f.turns events);
-        stands = record { task = f.stands.task; lanes = n.lanes; tells = n.tells };
-        side = f.side;
-        other = f.other;
-        left = f.left;
-      };
-      tried = u.tried;
-      count = omega (arith, u.count, length-append f.turns (events ∷ []));
-      early = early_on x s.head.migrate u.tried asked r.not_due u.early;
-      lines_are = ap (λ (ls : List Line). ls ++ events) u.lines_are ∙ ap (λ (es : List Line). line.Title ∷ line.Ready ∷ es) (sym (events_push f.turns events));
-    })
+    subst (λ (z : Snapshot M). (v : Untried state s blocks old z (lines ++ events)) × (v.turned.turns ≡ f.turns ++ events ∷ [])) (sym r.after) (
+      record {
+        turned = record {
+          turns = f.turns ++ events ∷ [];
+          world = n.v;
+          are = turns_push s 0 x.drawn (start_world s.head blocks) f.turns f.world events n.v (omega (arith, f.drawn)) f.are n.serial_turn;
+          drawn = omega (arith, n.drawn, f.drawn, pieces_push f.turns events);
+          stands = record { task = f.stands.task; lanes = n.lanes; tells = n.tells };
+          side = f.side;
+          other = f.other;
+          left = f.left;
+        };
+        tried = u.tried;
+        count = omega (arith, u.count, length-append f.turns (events ∷ []));
+        early = early_on x s.head.migrate u.tried asked r.not_due u.early;
+        lines_are = ap (λ (ls : List Line). ls ++ events) u.lines_are ∙ ap (λ (es : List Line). line.Title ∷ line.Ready ∷ es) (sym (events_push f.turns events));
+      },
+      refl,
+    )
 
 -- events behind the lines of a migration
-events_behind : (before moved after events : List Line) → (before ++ (moved ++ after)) ++ events ≡ before ++ (moved ++ (after ++ events))
+pub events_behind : (before moved after events : List Line) → (before ++ (moved ++ after)) ++ events ≡ before ++ (moved ++ (after ++ events))
 events_behind before moved after events = append_assoc before (moved ++ after) events ∙ ap (λ (es : List Line). before ++ es) (append_assoc moved after events)
 
-tried_turn : {M I : Type 0} {state : M → MediumState I} {moves : I → Step → Bool → I → Type 0} {s : Script} {blocks : Blocks} {x : Snapshot M} {side : Side} {t : TurnDone} {y : Snapshot M} {lines : List Line} →
-    TakesTurn state moves x side t y → Tried state s blocks x lines → Tried state s blocks y (lines ++ turn_lines t)
+pub tried_turn : {M I : Type 0} {state : M → MediumState I} {moves : I → Step → Bool → I → Type 0} {s : Script} {blocks : Blocks} {x : Snapshot M} {side : Side} {t : TurnDone} {y : Snapshot M} {lines : List Line} →
+    TakesTurn state moves x side t y → (u : Tried state s blocks x lines) → (v : Tried state s blocks y (lines ++ turn_lines t)) × (v.way ≡ u.way) × (v.before ≡ u.before) × (v.after ≡ u.after ++ turn_lines t ∷ [])
 tried_turn {M} {I} {state} {moves} {s} {blocks} {x} {side} {t} {y} {lines} r u =
     let n = next_turn r u.stands in
     let events = turn_lines t in
     let before = events_in u.before in
-    subst (λ (z : Snapshot M). Tried state s blocks z (lines ++ events)) (sym r.after) (record {
-      way = u.way;
-      tried = u.tried;
-      turn = u.turn;
-      asked = u.asked;
-      before = u.before;
-      mid = u.mid;
-      are_before = u.are_before;
-      begins = u.begins;
-      after = u.after ++ events ∷ [];
-      world = n.v;
-      are_after = turns_push s (pieces_in before) x.drawn u.mid u.after u.world events n.v u.drawn u.are_after n.serial_turn;
-      drawn = omega (arith, n.drawn, u.drawn, pieces_push u.after events);
-      stands = record { task = u.stands.task; lanes = n.lanes; tells = n.tells };
-      side = u.side;
-      behind = u.behind;
-      lines_are = ap (λ (ls : List Line). ls ++ events) u.lines_are
-          ∙ ap (λ (es : List Line). line.Title ∷ line.Ready ∷ es) (events_behind before (moving s u.way) (events_in u.after) events
-          ∙ ap (λ (es : List Line). before ++ (moving s u.way ++ es)) (sym (events_push u.after events)));
-    })
+    subst (λ (z : Snapshot M). (v : Tried state s blocks z (lines ++ events)) × (v.way ≡ u.way) × (v.before ≡ u.before) × (v.after ≡ u.after ++ events ∷ [])) (sym r.after) (
+      record {
+        way = u.way;
+        tried = u.tried;
+        turn = u.turn;
+        asked = u.asked;
+        before = u.before;
+        mid = u.mid;
+        are_before = u.are_before;
+        begins = u.begins;
+        after = u.after ++ events ∷ [];
+        world = n.v;
+        are_after = turns_push s (pieces_in before) x.drawn u.mid u.after u.world events n.v u.drawn u.are_after n.serial_turn;
+        drawn = omega (arith, n.drawn, u.drawn, pieces_push u.after events);
+        stands = record { task = u.stands.task; lanes = n.lanes; tells = n.tells };
+        side = u.side;
+        behind = u.behind;
+        lines_are = ap (λ (ls : List Line). ls ++ events) u.lines_are
+            ∙ ap (λ (es : List Line). line.Title ∷ line.Ready ∷ es) (events_behind before (moving s u.way) (events_in u.after) events
+            ∙ ap (λ (es : List Line). before ++ (moving s u.way ++ es)) (sym (events_push u.after events)));
+      },
+      refl,
+      refl,
+      refl,
+    )
 
 -- A migration.
 
@@ -247,7 +255,7 @@ turned_on f p tried out = record {
   left = f.left;
 }
 
-begin : {M I : Type 0} {state : M → MediumState I} {s : Script} {blocks : Blocks} {old x y : Snapshot M} {lines : List Line} → IsBegin x y → Untried state s blocks old x lines → Begun state s blocks old y (lines ++ line.Migrate ∷ line.Suspend ∷ [])
+pub begin : {M I : Type 0} {state : M → MediumState I} {s : Script} {blocks : Blocks} {old x y : Snapshot M} {lines : List Line} → IsBegin x y → Untried state s blocks old x lines → Begun state s blocks old y (lines ++ line.Migrate ∷ line.Suspend ∷ [])
 begin {M} {I} {state} {s} {blocks} {old} {x} {y} {lines} r u =
     let f = u.turned in
     let turn = r.due.turn in
@@ -270,8 +278,8 @@ begin {M} {I} {state} {s} {blocks} {old} {x} {y} {lines} r u =
 ending_lines : (before begun ending : List Line) → (before ++ begun) ++ ending ≡ before ++ ((begun ++ ending) ++ [])
 ending_lines before begun ending = append_assoc before begun ending ∙ ap (λ (es : List Line). before ++ es) (sym (append-nil (begun ++ ending)))
 
-resume : {M I : Type 0} {state : M → MediumState I} {moves : I → Step → Bool → I → Type 0} {s : Script} {blocks : Blocks} {old x : Snapshot M} {side : Side} {copies : List Copy} {y : Snapshot M} {lines : List Line} →
-    Tells state s blocks old → IsResume state moves x side copies y → Begun state s blocks old x lines → Tried state s blocks y (lines ++ lines_of s (Resume side copies))
+pub resume : {M I : Type 0} {state : M → MediumState I} {moves : I → Step → Bool → I → Type 0} {s : Script} {blocks : Blocks} {old x : Snapshot M} {side : Side} {copies : List Copy} {y : Snapshot M} {lines : List Line} →
+    Tells state s blocks old → IsResume state moves x side copies y → Begun state s blocks old x lines → (v : Tried state s blocks y (lines ++ lines_of s (Resume side copies))) × (v.way ≡ Moved) × (v.world ≡ v.mid)
 resume {M} {I} {state} {moves} {s} {blocks} {old} {x} {side} {copies} {y} {lines} h r u =
     let f = u.turned in
     let task = f.stands.task in
@@ -280,53 +288,60 @@ resume {M} {I} {state} {moves} {s} {blocks} {old} {x} {side} {copies} {y} {lines
     let gets = subst (λ (k : Task). Chain (IsAt state moves) x.at (flat_map (gets_of k.script.head.shelf) copies) y.other) task r.gets in
     let puts = subst (λ (k : Task). Chain (IsAt state moves) x.other (flat_map (puts_of k.script.head.shelf) copies) y.at) task r.puts in
     let others = subst (λ (media : List M). Tell state s.head media h.others) (sym f.other) h.destination in
-    subst (λ (z : Snapshot M). Tried state s blocks z (lines ++ lines_of s (Resume side copies))) (sym r.after) (record {
-      way = Moved;
-      tried = u.tried;
-      turn = u.turn;
-      asked = u.asked;
-      before = f.turns;
-      mid = f.world;
-      are_before = f.are;
-      begins = u.begins;
-      after = [];
-      world = f.world;
-      are_after = refl;
-      drawn = omega (arith, f.drawn);
-      stands = record { task = task; lanes = f.stands.lanes; tells = puts_told state moves s.head copies x.at x.other y.other y.at f.world.blocks h.others all gets puts f.stands.tells others };
-      side = ap opposite f.side;
-      behind = (
-        gets_told state moves s.head copies x.at y.other f.world.blocks gets f.stands.tells,
-        ap (λ (k : Task). memory_of k.script x.lanes) task ∙ ap (memory_of s) f.stands.lanes,
-      );
-      lines_are = ap (λ (ls : List Line). ls ++ lines_of s (Resume side copies)) u.lines_are
-          ∙ ap (λ (es : List Line). line.Title ∷ line.Ready ∷ es) (ending_lines (events_in f.turns) (line.Migrate ∷ line.Suspend ∷ []) (lines_of s (Resume side copies)));
-    })
+    subst (λ (z : Snapshot M). (v : Tried state s blocks z (lines ++ lines_of s (Resume side copies))) × (v.way ≡ Moved) × (v.world ≡ v.mid)) (sym r.after) (
+      record {
+        way = Moved;
+        tried = u.tried;
+        turn = u.turn;
+        asked = u.asked;
+        before = f.turns;
+        mid = f.world;
+        are_before = f.are;
+        begins = u.begins;
+        after = [];
+        world = f.world;
+        are_after = refl;
+        drawn = omega (arith, f.drawn);
+        stands = record { task = task; lanes = f.stands.lanes; tells = puts_told state moves s.head copies x.at x.other y.other y.at f.world.blocks h.others all gets puts f.stands.tells others };
+        side = ap opposite f.side;
+        behind = (
+          gets_told state moves s.head copies x.at y.other f.world.blocks gets f.stands.tells,
+          ap (λ (k : Task). memory_of k.script x.lanes) task ∙ ap (memory_of s) f.stands.lanes,
+        );
+        lines_are = ap (λ (ls : List Line). ls ++ lines_of s (Resume side copies)) u.lines_are
+            ∙ ap (λ (es : List Line). line.Title ∷ line.Ready ∷ es) (ending_lines (events_in f.turns) (line.Migrate ∷ line.Suspend ∷ []) (lines_of s (Resume side copies)));
+      },
+      refl,
+      refl,
+    )
 
-give_up : {M I : Type 0} {state : M → MediumState I} {moves : I → Step → Bool → I → Type 0} {s : Script} {blocks : Blocks} {old x : Snapshot M} {side : Side} {copies : List Copy} {y : Snapshot M} {lines : List Line} →
-    Tells state s blocks old → IsGiveUp state moves x side copies y → Begun state s blocks old x lines → Tried state s blocks y (lines ++ line.GiveUp ∷ [])
+pub give_up : {M I : Type 0} {state : M → MediumState I} {moves : I → Step → Bool → I → Type 0} {s : Script} {blocks : Blocks} {old x : Snapshot M} {side : Side} {copies : List Copy} {y : Snapshot M} {lines : List Line} →
+    Tells state s blocks old → IsGiveUp state moves x side copies y → Begun state s blocks old x lines → (v : Tried state s blocks y (lines ++ line.GiveUp ∷ [])) × (v.way ≡ GivenUp)
 give_up {M} {I} {state} {moves} {s} {blocks} {old} {x} {side} {copies} {y} {lines} h r u =
     let f = u.turned in
     let gets = subst (λ (k : Task). Chain (IsAt state moves) x.at (flat_map (gets_of k.script.head.shelf) copies) y.at) f.stands.task r.gets in
-    subst (λ (z : Snapshot M). Tried state s blocks z (lines ++ line.GiveUp ∷ [])) (sym r.after) (record {
-      way = GivenUp;
-      tried = u.tried;
-      turn = u.turn;
-      asked = u.asked;
-      before = f.turns;
-      mid = f.world;
-      are_before = f.are;
-      begins = u.begins;
-      after = [];
-      world = f.world;
-      are_after = refl;
-      drawn = omega (arith, f.drawn);
-      stands = record { task = f.stands.task; lanes = f.stands.lanes; tells = gets_told state moves s.head copies x.at y.at f.world.blocks gets f.stands.tells };
-      side = f.side;
-      behind = f.left ∙ ap (λ (t : Snapshot M). t.left) h.start;
-      lines_are = ap (λ (ls : List Line). ls ++ line.GiveUp ∷ []) u.lines_are
-          ∙ ap (λ (es : List Line). line.Title ∷ line.Ready ∷ es) (ending_lines (events_in f.turns) (line.Migrate ∷ line.Suspend ∷ []) (line.GiveUp ∷ []));
-    })
+    subst (λ (z : Snapshot M). (v : Tried state s blocks z (lines ++ line.GiveUp ∷ [])) × (v.way ≡ GivenUp)) (sym r.after) (
+      record {
+        way = GivenUp;
+        tried = u.tried;
+        turn = u.turn;
+        asked = u.asked;
+        before = f.turns;
+        mid = f.world;
+        are_before = f.are;
+        begins = u.begins;
+        after = [];
+        world = f.world;
+        are_after = refl;
+        drawn = omega (arith, f.drawn);
+        stands = record { task = f.stands.task; lanes = f.stands.lanes; tells = gets_told state moves s.head copies x.at y.at f.world.blocks gets f.stands.tells };
+        side = f.side;
+        behind = f.left ∙ ap (λ (t : Snapshot M). t.left) h.start;
+        lines_are = ap (λ (ls : List Line). ls ++ line.GiveUp ∷ []) u.lines_are
+            ∙ ap (λ (es : List Line). line.Title ∷ line.Ready ∷ es) (ending_lines (events_in f.turns) (line.Migrate ∷ line.Suspend ∷ []) (line.GiveUp ∷ []));
+      },
+      refl,
+    )
 
 -- The last line.
 
@@ -334,45 +349,53 @@ no_wish : {M : Type 0} (x : Snapshot M) (wish : Option ℕ) → x.tried ≡ fals
 no_wish x None untried asked not complete = refl
 no_wish x (Some turn) untried asked not complete = absurd (not (record { untried = untried; turn = turn; asked = asked; when = inr complete }))
 
-end : {M I : Type 0} {state : M → MediumState I} {s : Script} {blocks : Blocks} {old x y : Snapshot M} {lines : List Line} → IsEnd x y → Untried state s blocks old x lines ⊎ Tried state s blocks x lines →
+-- the last line changes nothing else
+
+pub untried_end : {M I : Type 0} {state : M → MediumState I} {s : Script} {blocks : Blocks} {old x y : Snapshot M} {lines : List Line} → IsEnd x y → Untried state s blocks old x lines → Untried state s blocks old y lines
+untried_end {M} {I} {state} {s} {blocks} {old} {x} {y} {lines} r u =
+    subst (λ (z : Snapshot M). Untried state s blocks old z lines) (sym r.after) (record {
+      turned = turned_on u.turned Over x.tried y.out;
+      tried = u.tried;
+      count = u.count;
+      early = u.early;
+      lines_are = u.lines_are;
+    })
+
+pub tried_end : {M I : Type 0} {state : M → MediumState I} {s : Script} {blocks : Blocks} {x y : Snapshot M} {lines : List Line} → IsEnd x y → Tried state s blocks x lines → Tried state s blocks y lines
+tried_end {M} {I} {state} {s} {blocks} {x} {y} {lines} r u =
+    subst (λ (z : Snapshot M). Tried state s blocks z lines) (sym r.after) (record {
+      way = u.way;
+      tried = u.tried;
+      turn = u.turn;
+      asked = u.asked;
+      before = u.before;
+      mid = u.mid;
+      are_before = u.are_before;
+      begins = u.begins;
+      after = u.after;
+      world = u.world;
+      are_after = u.are_after;
+      drawn = u.drawn;
+      stands = record { task = u.stands.task; lanes = u.stands.lanes; tells = u.stands.tells };
+      side = u.side;
+      behind = u.behind;
+      lines_are = u.lines_are;
+    })
+
+complete_end : {M : Type 0} {s : Script} {x y : Snapshot M} → IsEnd x y → x.task ≡ serial s → Complete s (among y.lanes)
+complete_end {M} {s} {x} {y} r task =
+    subst (λ (z : Snapshot M). Complete s (among z.lanes)) (sym r.after) (subst (λ (k : Task). Complete k.script (among x.lanes)) task r.complete)
+
+pub end : {M I : Type 0} {state : M → MediumState I} {s : Script} {blocks : Blocks} {old x y : Snapshot M} {lines : List Line} → IsEnd x y → Untried state s blocks old x lines ⊎ Tried state s blocks x lines →
     Ended state s blocks old y (lines ++ line.End ∷ [])
-end {M} {I} {state} {s} {blocks} {old} {x} {y} {lines} r (inl u) =
-    let task = u.turned.stands.task in
-    let asked : x.task.script.head.migrate ≡ s.head.migrate = ap (λ (k : Task). k.script.head.migrate) task in
-    subst (λ (z : Snapshot M). Ended state s blocks old z (lines ++ line.End ∷ [])) (sym r.after) (record {
-      front = lines;
-      lines_are = refl;
-      complete = subst (λ (k : Task). Complete k.script (among x.lanes)) task r.complete;
-      way = inl (record { turned = turned_on u.turned Over x.tried y.out; tried = u.tried; count = u.count; early = u.early; lines_are = u.lines_are }, no_wish x s.head.migrate u.tried asked r.not_due r.complete);
-    })
-end {M} {I} {state} {s} {blocks} {old} {x} {y} {lines} r (inr u) =
-    subst (λ (z : Snapshot M). Ended state s blocks old z (lines ++ line.End ∷ [])) (sym r.after) (record {
-      front = lines;
-      lines_are = refl;
-      complete = subst (λ (k : Task). Complete k.script (among x.lanes)) u.stands.task r.complete;
-      way = inr (record {
-        way = u.way;
-        tried = u.tried;
-        turn = u.turn;
-        asked = u.asked;
-        before = u.before;
-        mid = u.mid;
-        are_before = u.are_before;
-        begins = u.begins;
-        after = u.after;
-        world = u.world;
-        are_after = u.are_after;
-        drawn = u.drawn;
-        stands = record { task = u.stands.task; lanes = u.stands.lanes; tells = u.stands.tells };
-        side = u.side;
-        behind = u.behind;
-        lines_are = u.lines_are;
-      });
-    })
+end {s = s} {x = x} {lines = lines} r (inl u) =
+    let asked : x.task.script.head.migrate ≡ s.head.migrate = ap (λ (k : Task). k.script.head.migrate) u.turned.stands.task in
+    record { front = lines; lines_are = refl; complete = complete_end r u.turned.stands.task; way = inl (untried_end r u, no_wish x s.head.migrate u.tried asked r.not_due r.complete) }
+end {lines = lines} r (inr u) = record { front = lines; lines_are = refl; complete = complete_end r u.stands.task; way = inr (tried_end r u) }
 
 -- A stage, and all.
 
-at_phase : {M I : Type 0} (state : M → MediumState I) (s : Script) (blocks : Blocks) (old x : Snapshot M) (lines : List Line) (p : RunPhase) → x.phase ≡ p → StandsAt state s blocks old x.phase x lines → StandsAt state s blocks old p x lines
+pub at_phase : {M I : Type 0} (state : M → MediumState I) (s : Script) (blocks : Blocks) (old x : Snapshot M) (lines : List Line) (p : RunPhase) → x.phase ≡ p → StandsAt state s blocks old x.phase x lines → StandsAt state s blocks old p x lines
 at_phase state s blocks old x lines p is h = subst (λ (q : RunPhase). StandsAt state s blocks old q x lines) is h
 
 to_phase : {M I : Type 0} (state : M → MediumState I) (s : Script) (blocks : Blocks) (old x z : Snapshot M) (lines : List Line) → x ≡ z → StandsAt state s blocks old z.phase x lines → StandsAt state s blocks old x.phase x lines
@@ -387,14 +410,14 @@ stage_stands {M} state moves s blocks old x Title y lines t r h =
 stage_stands state moves s blocks old x (Turn side turn) y lines t r h =
     to_phase state s blocks old y _ (lines ++ turn_lines turn) r.after
     (subst (λ (q : RunPhase). StandsAt state s blocks old q y (lines ++ turn_lines turn)) (sym r.was)
-    (⊎_elim (λ u. inl (untried_turn r u)) (λ u. inr (tried_turn r u)) (at_phase state s blocks old x lines Running r.was h)))
+    (⊎_elim (λ u. inl (untried_turn r u).0) (λ u. inr (tried_turn r u).0) (at_phase state s blocks old x lines Running r.was h)))
 stage_stands state moves s blocks old x Begin y lines t r h =
     to_phase state s blocks old y _ (lines ++ lines_of s Begin) r.after
     (⊎_elim (λ u. begin r u) (λ u. let untried = r.due.untried in let tried = u.tried in absurd cc) (at_phase state s blocks old x lines Running r.was h))
 stage_stands state moves s blocks old x (Resume side copies) y lines t r h =
-    to_phase state s blocks old y _ (lines ++ lines_of s (Resume side copies)) r.after (inr (resume t r (at_phase state s blocks old x lines Suspended r.was h)))
+    to_phase state s blocks old y _ (lines ++ lines_of s (Resume side copies)) r.after (inr (resume t r (at_phase state s blocks old x lines Suspended r.was h)).0)
 stage_stands state moves s blocks old x (GiveUp side copies) y lines t r h =
-    to_phase state s blocks old y _ (lines ++ lines_of s (GiveUp side copies)) r.after (inr (give_up t r (at_phase state s blocks old x lines Suspended r.was h)))
+    to_phase state s blocks old y _ (lines ++ lines_of s (GiveUp side copies)) r.after (inr (give_up t r (at_phase state s blocks old x lines Suspended r.was h)).0)
 stage_stands state moves s blocks old x End y lines t r h =
     to_phase state s blocks old y _ (lines ++ lines_of s End) r.after (end r (at_phase state s blocks old x lines Running r.was h))
 

@@ -1,6 +1,6 @@
-use Rattle.std.specs.Prelude.{◌≡◌, ◌⊎◌, ℕ, ◌+◌, ◌*◌, ◌<◌, Bool, true, false, ◌&&◌, List, [], ◌∷◌, ◌++◌, Option, Some, None, length}
+use Rattle.std.specs.Prelude.{◌≡◌, ◌⊎◌, ℕ, ◌*◌, Bool, true, false, ◌&&◌, List, ◌++◌, Option, Some, None, length}
 use Rattle.std.specs.List.{AllByRecursion, list_any}
-use Rattle.mig_base.specs.Count.{NeverFall, RiseBy}
+use Rattle.mig_base.specs.Count.{RiseBy}
 use Rattle.mig_base.specs.Stream.{with_more}
 use Rattle.nvm_model.specs.declared.line.Line.{Line}
 use Rattle.nvm_model.specs.declared.line.Line.TheVariants as line
@@ -59,7 +59,7 @@ abbrev pub SidesHold : {M I : Type 0} → (M → MediumState I) → Script → L
 SidesHold state s blocks None t w = Holds state s Source t w × (memory_at Destination t ≡ memory_of s (start_lanes s))
 SidesHold state s blocks (Some before) t w = (v : World) × Reaches s blocks before v × Holds state s Source t v × Holds state s Destination t w
 
-abbrev is_source : Side → Bool
+abbrev pub is_source : Side → Bool
 is_source Source = true
 is_source Destination = false
 
@@ -75,12 +75,10 @@ pub record HasRun {M I : Type 0} (state : M → MediumState I) (s : Script) (blo
   -- a migration was given up exactly where the guests are at the source and one was begun
   pub gave_up : has_given_up lines ≡ (new.tried && is_source new.side)
   pub untouched : new.tried ≡ false → IsUntouched old new
-  pub later : NeverFall (faults_of state old) (faults_of state new)
-  pub rose : RiseBy (faults_shown lines) (faults_of state old) (faults_of state new)
 
 -- A run that stopped where the sink failed.
 
-abbrev is_migrate : Line → Bool
+abbrev pub is_migrate : Line → Bool
 is_migrate line.Migrate = true
 is_migrate _ = false
 
@@ -113,6 +111,5 @@ pub record HasStopped {M I : Type 0} (state : M → MediumState I) (s : Script) 
   pub legal_so_far : Reaches s blocks (events_of written ++ done) reached
   pub holds : SideHolds state s (lines_before_resume written) new reached
   pub untouched : (list_any is_migrate written ≡ true) ⊎ IsUntouched old new
-  -- each fault that these lines show was one
-  pub later : NeverFall (faults_of state old) (faults_of state new)
+  -- the lines that are still to come show no fault, so each that they show was one
   pub rose : RiseBy (faults_shown lines) (faults_of state old) (faults_of state new)

@@ -7,7 +7,7 @@ ghost use Rattle.turns.specs.Run.{all_blocks, opposite};
 ghost use Rattle.session.specs.declared.ending.Ending.TheVariants.{Done, GaveUp};
 ghost use Rattle.session.specs.Place.{IsPlaceOf, IsReady, PlaceState, total_work};
 ghost use Rattle.session.specs.Copies.{CopiesTo, both};
-ghost use Rattle.session.specs.Sides.{Goes, IsMoveDue, IsMoved, by_side, less_one, IsNext, IsOnward, IsRunning, IsStop, machine_of, sides, sink};
+ghost use Rattle.session.specs.Sides.{Goes, HasBegun, IsMoveDue, IsMoved, by_side, less_one, IsNext, IsOnward, IsRunning, IsStop, machine_of, sides, sink};
 
 use super::{Next, Session};
 use crate::Ending;
@@ -119,8 +119,9 @@ impl Session {
             → Goes M.state M.moves
             (sides self.old old_at old_to (sink (K.bytes out.old) (K.faults out.old))) (is_err result)
             (sides self.new to.new at.new (sink (K.bytes out.new) (K.faults out.new))) }
-        ensures moved { IfOk result (λ ending. (ending ≡ Done) × IsRunning self.new to.new
-            × (self.new ≡ record self.old { phase = Running; side = opposite self.old.side })) }
+        ensures session { self.new ≡ record self.old { phase = Running; side = opposite self.old.side } }
+        ensures running { IsRunning self.new to.new }
+        ensures done { IfOk result (λ ending. ending ≡ Done) }
     {
         at.hand_over(to);
         self.phase = RunPhase::Running;
@@ -149,8 +150,8 @@ impl Session {
             → Goes M.state M.moves
             (sides self.old old_at old_to (sink (K.bytes out.old) (K.faults out.old))) (is_err result)
             (sides self.new at.now to.now (sink (K.bytes out.new) (K.faults out.new))) }
-        ensures stayed { IfOk result (λ ending. (ending ≡ GaveUp) × IsRunning self.new at.now
-            × (self.new ≡ record self.old { phase = Running })) }
+        ensures session { self.new ≡ record self.old { phase = Running } }
+        ensures gave_up { IfOk result (λ ending. ending ≡ GaveUp) }
     {
         self.phase = RunPhase::Running;
         self.text.write(&[Line::GiveUp], out)?;
@@ -172,6 +173,7 @@ impl Session {
             (sides self.old at.old to.old (sink (K.bytes out.old) (K.faults out.old))) (is_err result)
             (by_side self.new at.new to.new (sink (K.bytes out.new) (K.faults out.new))) }
         ensures moved { IfOk result (λ ending. IsMoved ending self.new at.new to.new) }
+        ensures begun { HasBegun self.old self.new }
     {
         self.suspend(at, out)?;
         match at.copy_blocks(to) {
