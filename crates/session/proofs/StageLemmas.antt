@@ -1,5 +1,5 @@
-use Rattle.std.proofs.Common.{◌≡◌, ◌⊎◌, inl, inr, ⊎_elim, ℕ, zero, suc, ◌+◌, ◌-◌, ◌<◌, ◌≤◌, Bool, true, false, Option, Some, None, Result, List, [], ◌∷◌, length, refl, sym, ap, subst, ◌∙◌, arith}
-use Rattle.std.specs.Prelude.{is_err}
+use Rattle.std.proofs.Common.{◌≡◌, ◌⊎◌, inl, inr, ⊎_elim, ℕ, zero, suc, ◌+◌, ◌-◌, ◌<◌, ◌≤◌, Bool, true, false, Option, Some, None, Result, Ok, Err, List, [], ◌∷◌, length, refl, sym, ap, subst, ◌∙◌, arith}
+use Rattle.std.specs.Prelude.{IfOk, IsTrue, is_err}
 use Rattle.std.specs.List.{flat_map}
 use Rattle.mig_base.specs.Stream.{Writes}
 use Rattle.nvm_model.specs.declared.line.Line.{Line}
@@ -61,6 +61,9 @@ sent_from {text = text} {sent = sent} {result = result} is w = subst (λ (o : Si
 
 some_is : {m n : ℕ} → Some m ≡ Some n → m ≡ n
 some_is e = cc
+
+pub not_true : {b : Bool} → b ≡ false → IsTrue b → ⊥
+not_true is true_is = absurd cc
 
 -- what a migration that is due waits for
 pub due_map : (ahead : Option ℕ) {P Q : Type 0} → (P → Q) → IsDueAfter ahead P → IsDueAfter ahead Q
@@ -308,6 +311,21 @@ pub on_destination : {M I : Type 0} {state : M → MediumState I} {moves : I →
 on_destination {M} {state = state} {moves} {old} {new} {from} {to} {new_from} {new_to} {out} {sent} {failed} is goes =
     subst (λ (side : Side). Goes state moves (sides old from to out) failed (at_side side (sides new new_from new_to sent) (sides new new_to new_from sent))) (sym is) goes
 
+-- and back
+pub as_source : {M I : Type 0} {state : M → MediumState I} {moves : I → Step → Bool → I → Type 0} {old new : SessionState} {from to new_from new_to : PlaceState M} {out sent : SinkState} {failed : Bool} → new.side ≡ Source →
+    Goes state moves (sides old from to out) failed (by_side new new_from new_to sent) → Goes state moves (sides old from to out) failed (sides new new_from new_to sent)
+as_source {M} {state = state} {moves} {old} {new} {from} {to} {new_from} {new_to} {out} {sent} {failed} is goes =
+    subst (λ (side : Side). Goes state moves (sides old from to out) failed (at_side side (sides new new_from new_to sent) (sides new new_to new_from sent))) is goes
+
+pub as_destination : {M I : Type 0} {state : M → MediumState I} {moves : I → Step → Bool → I → Type 0} {old new : SessionState} {from to new_from new_to : PlaceState M} {out sent : SinkState} {failed : Bool} → new.side ≡ Destination →
+    Goes state moves (sides old from to out) failed (by_side new new_from new_to sent) → Goes state moves (sides old from to out) failed (sides new new_to new_from sent)
+as_destination {M} {state = state} {moves} {old} {new} {from} {to} {new_from} {new_to} {out} {sent} {failed} is goes =
+    subst (λ (side : Side). Goes state moves (sides old from to out) failed (at_side side (sides new new_from new_to sent) (sides new new_to new_from sent))) is goes
+
+pub if_ok : {T E : Type 0} {P Q : T → Type 0} (result : Result T E) → ((x : T) → P x → Q x) → IfOk result P → IfOk result Q
+if_ok (Ok x) f p = f x p
+if_ok (Err e) f p = tt
+
 -- How a run ends.
 
 -- a script that asks for no migration
@@ -329,6 +347,6 @@ pub none_ahead : (ahead : Option ℕ) {P : Type 0} → P → (IsDueAfter ahead P
 none_ahead None done not = refl
 none_ahead (Some n) done not = absurd (not (inr done))
 
-pub some_ahead : (ahead : Option ℕ) {P : Type 0} → IsDueAfter ahead P → ahead ≡ None → ⊥
-some_ahead None due is = due
-some_ahead (Some n) due is = absurd cc
+pub some_ahead : (ahead : Option ℕ) (P : Type 0) → IsDueAfter ahead P → ahead ≡ None → ⊥
+some_ahead None P due is = due
+some_ahead (Some n) P due is = absurd cc

@@ -1,5 +1,9 @@
-use Rattle.session.proofs.StageLemmas.{due_map}
+use Rattle.std.proofs.Common.{◌≡◌}
+use Rattle.session.proofs.StageLemmas.{due_map, not_true}
 use Rattle.session.proofs.session.Session.next.Goals as goal
 
 pub returns : goal.returns
-returns c = rw (← c.self.view_is) (λ done. c.if-complete.ensures.not done, λ due. c.if-is_due.ensures.not (due_map c.self.inside.ahead c.are_all_done-complete.ensures.not due))
+returns c = rw (← c.self.view_is) (
+  λ done. not_true c.if-complete.false (c.are_all_done-complete.ensures.not done),
+  λ due. not_true c.if-is_due.false (c.is_due.ensures.not (due_map c.self.inside.ahead c.are_all_done-complete.ensures.not due)),
+)

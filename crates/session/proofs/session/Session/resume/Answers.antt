@@ -24,3 +24,21 @@ returns-clause-went g c =
     rw (c.other_side-self-inside.ensures, ← c.self.view_is) λ old_at old_to copies.
     goes_resume (ap (λ (s : SessionState). s.phase) c.self.view_is ∙ c.requires.was) ready place copies c.hand_over.ensures c.page_count.result c.page_count.ensures c.in_ok-write.ensures
 
+
+pub returns-in_err-write-clause-running : goal.returns-in_err-write-clause-running
+returns-in_err-write-clause-running g c =
+    let ready = subst (λ (s : SessionState). IsReady s.script (machine_of s c.args.at.now)) (sym c.self.view_is) c.requires.ready in
+    let place = subst (λ (s : SessionState). IsPlaceOf s.script c.args.to.now) (sym c.self.view_is) c.requires.place in
+    record {
+      phase = refl;
+      ready = ready_there (record { script = c.self.inside.script; runs = c.self.inside.runs.items; order = c.self.inside.order; ahead = c.self.inside.ahead; phase = c.self.inside.phase; side = c.self.inside.side }) ready place c.hand_over.ensures;
+    }
+
+pub returns-clause-running : goal.returns-clause-running
+returns-clause-running g c =
+    let ready = subst (λ (s : SessionState). IsReady s.script (machine_of s c.args.at.now)) (sym c.self.view_is) c.requires.ready in
+    let place = subst (λ (s : SessionState). IsPlaceOf s.script c.args.to.now) (sym c.self.view_is) c.requires.place in
+    record {
+      phase = refl;
+      ready = ready_there (record { script = c.self.inside.script; runs = c.self.inside.runs.items; order = c.self.inside.order; ahead = c.self.inside.ahead; phase = c.self.inside.phase; side = c.self.inside.side }) ready place c.hand_over.ensures;
+    }
