@@ -1,6 +1,6 @@
 //! A shelf: its entries, and the calls of its medium.
 
-ghost use Rattle.std.specs.Prelude.{◌≡◌, [], IfOk, length};
+ghost use Rattle.std.specs.Prelude.{◌≡◌, ◌<◌, IfOk, length};
 
 use guest_ram::Ram;
 use mig_base::{Failed, LaneNo, Span};
@@ -11,13 +11,16 @@ use nvm_values::Op;
 use std::alloc::Global;
 use std::test::Fail;
 
-/// A shelf of eight blocks, whose first is block 16 of the namespace, with room for four entries. Its second get fails.
+/// A shelf of eight blocks, whose first is block 16 of the namespace, with room for four entries. Its second get and its ninth put fail.
 fn make_shelf(alloc: Global) -> Result<Shelf<MemMedium>, Fail>
-    ensures { IfOk result (λ s. (s.first ≡ 16) × (length s.medium.blocks ≡ 8) × (s.room ≡ 4) × (s.entries ≡ [])) }
+    ensures place { IfOk result (λ s. (s.first ≡ 16) × (length s.medium.blocks ≡ 8)) }
+    ensures room { IfOk result (λ s. length s.entries < s.room) }
 {
     let gets = vec![in alloc; 2]?;
-    let made = MemMedium::make(alloc, 8, 32, gets, Vec::new(alloc));
-    let medium = made.ok().ok_or("medium")?;
+    let puts = vec![in alloc; 9]?;
+    let medium = MemMedium::make(alloc, 8, 32, gets, puts)
+        .ok()
+        .ok_or("medium")?;
     Ok(Shelf::make(alloc, medium, 16, 4).ok().ok_or("shelf")?)
 }
 
