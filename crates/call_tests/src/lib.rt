@@ -1,17 +1,29 @@
-//! Tests over the public calls of crates whose proofs are dear, since a crate with tests is proved twice: what files under
-//! tests/cases can't show, as media, inputs and sinks that fail, traces, and hosts of odd sizes. Nothing stands on it.
+//! Tests over the public calls of the crates below, a module a subject, since a crate with tests is proved twice: what files
+//! under tests/cases can't show, as media, inputs and sinks that fail, traces, and hosts of odd sizes. Nothing stands on it.
 #![tactic(auto)]
 
 #[cfg(test)]
+mod commands;
+#[cfg(test)]
 mod controllers;
 #[cfg(test)]
-mod guests;
+mod cores;
+#[cfg(test)]
+mod entries;
+#[cfg(test)]
+mod identify;
+#[cfg(test)]
+mod media;
 #[cfg(test)]
 mod moves;
 #[cfg(test)]
 mod namespaces;
 #[cfg(test)]
 mod programs;
+#[cfg(test)]
+mod queues;
+#[cfg(test)]
+mod rings;
 #[cfg(test)]
 mod scripts;
 #[cfg(test)]
@@ -22,3 +34,5 @@ mod stops;
 mod streams;
 #[cfg(test)]
 mod transcripts;
+#[cfg(test)]
+mod windows;

@@ -1,9 +1,8 @@
 //! Moves: what either host holds afterwards, and each call of either medium.
 
-use crate::programs::{Given, Left, ONE_SHELF, TWO_SHELVES, block_of, called, joined};
+use crate::programs::{Given, Left, ONE_SHELF, TWO_SHELVES, block_of, called, joined, steps_of};
 use engine::Status;
-use guest_ram::Host;
-use mig_medium::{MemMedium, Step};
+use mig_medium::Step;
 use std::alloc::{AllocError, Global};
 use std::test::Fail;
 
@@ -132,11 +131,6 @@ fn transcript(alloc: Global, parts: [&str; 3]) -> Result<Vec<u8>, AllocError> {
     joined(alloc, &[first, before, lines, after, "end\n"])
 }
 
-/// The steps of the first shelf's medium.
-fn steps_of(host: &Host<MemMedium>) -> Option<&[Step]> {
-    host.shelves.first()?.trace()
-}
-
 /// Each block is read and written once, and then the guest's own calls come to the destination alone.
 #[test]
 fn a_move_copies_each_block_once(rt: HostRuntime) -> Result<(), Fail> {
@@ -151,8 +145,8 @@ fn a_move_copies_each_block_once(rt: HostRuntime) -> Result<(), Fail> {
     for step in [Step::Get(3), Step::Put(4), Step::Get(3), Step::Get(4)] {
         destination.push(step)?;
     }
-    assert!(&rt; steps_of(&left.from) == Some(source.as_slice()));
-    assert!(&rt; steps_of(&left.to) == Some(destination.as_slice()));
+    assert!(&rt; steps_of(&left.from, 0) == Some(source.as_slice()));
+    assert!(&rt; steps_of(&left.to, 0) == Some(destination.as_slice()));
     assert!(&rt; block_of(&mut left.from, 0, 3) == Some([0x5a; 512]));
     assert!(&rt; block_of(&mut left.from, 0, 4) == Some([0; 512]));
     assert!(&rt; block_of(&mut left.to, 0, 3) == Some([0x5a; 512]));

@@ -3,7 +3,7 @@
 use engine::{FreeGate, Status, nvmigrate};
 use guest_ram::{Host, Ram};
 use mig_base::{BytesSink, BytesSource};
-use mig_medium::{Medium, MemMedium};
+use mig_medium::{Medium, MemMedium, Step};
 use std::alloc::{AllocError, Global};
 use std::test::Fail;
 use std::thread::Threads;
@@ -134,6 +134,11 @@ pub(crate) fn called_by<R: Threads + Sync>(
         from,
         to,
     })
+}
+
+/// The steps of a shelf's medium.
+pub(crate) fn steps_of(host: &Host<MemMedium>, shelf: usize) -> Option<&[Step]> {
+    host.shelves.get(shelf)?.trace()
 }
 
 /// A block of a shelf.

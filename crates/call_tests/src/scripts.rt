@@ -1,10 +1,7 @@
 //! Scripts as values: how they are read, alone and in front of other bytes, and how they are written.
 
 use mig_base::{BytesSink, Failed};
-use nvm_values::Op;
-use script::{
-    Act, BadLine, Head, LaneSet, ParseRefusal, Script, Why, parse, parse_front, write_script,
-};
+use script::{BadLine, ParseRefusal, Why, parse, parse_front, write_script};
 use std::alloc::{AllocError, Global};
 use std::test::Fail;
 
@@ -40,108 +37,6 @@ fn spoilt(alloc: Global, line: usize, text: &str) -> Result<Vec<u8>, AllocError>
         whole.extend_from_slice(part.as_bytes())?;
     }
     Ok(whole)
-}
-
-/// The act that stands at line 15.
-fn act_at(alloc: Global, line: &str) -> Result<Option<(u8, Act)>, AllocError> {
-    let text = spoilt(alloc, 15, line)?;
-    match parse(alloc, &text) {
-        Ok(script) => Ok(script.acts.list().first().copied()),
-        Err(_) => Ok(None),
-    }
-}
-
-#[test]
-fn a_script_is_read(rt: HostRuntime) -> Result<(), Fail> {
-    let text = spoilt(rt.alloc(), 0, "")?;
-    let script = parse(rt.alloc(), &text).ok().ok_or("it is a script")?;
-    let none = LaneSet {
-        sq: 0,
-        cq: 0,
-        pages: 0,
-    };
-    let mut sets = [none; 8];
-    sets[0] = LaneSet {
-        sq: 4,
-        cq: 4,
-        pages: 2,
-    };
-    sets[1] = LaneSet {
-        sq: 4,
-        cq: 4,
-        pages: 3,
-    };
-    let head = Head {
-        blocks: 130,
-        shelf: 65,
-        lanes: 2,
-        sets,
-        burst: 4,
-        mix: 0,
-        change: 4,
-        slice: 4,
-        small: 4,
-        pages: 4,
-        patience: 8,
-        migrate: Some(3),
-    };
-    assert_eq!(rt; script.head, head);
-    assert_eq!(rt; script.acts.list().len(), 5);
-    Ok(())
-}
-
-#[test]
-fn acts_are_read(rt: HostRuntime) -> Result<(), Fail> {
-    let fill = Act::Fill {
-        page: 0,
-        byte: 0x5a,
-    };
-    assert!(rt; act_at(rt.alloc(), "1 fill 0 5a\n")? == Some((1, fill)));
-    let submit = Act::Submit {
-        cid: 65535,
-        op: Op::Verify,
-        slba: u64::MAX,
-        count: 65536,
-        p1: None,
-        p2: Some(2),
-    };
-    assert!(rt;
-        act_at(
-            rt.alloc(),
-            "2 submit 65535 verify 18446744073709551615 65536 - 2\n"
-        )? == Some((2, submit))
-    );
-    let mut bytes = [0; 32];
-    bytes[0] = 0xde;
-    bytes[1] = 0xad;
-    let poke = Act::Poke {
-        page: 1,
-        at: 4094,
-        bytes,
-        used: 2,
-    };
-    assert!(rt; act_at(rt.alloc(), "1 poke 1 4094 dead\n")? == Some((1, poke)));
-    let list = Act::List {
-        page: 2,
-        pages: [1, 2, 0, 0, 0, 0, 0, 0],
-        used: 2,
-    };
-    assert!(rt; act_at(rt.alloc(), "2 list 2 1 2\n")? == Some((2, list)));
-    assert!(rt; act_at(rt.alloc(), "2 wait\n")? == Some((2, Act::Wait)));
-    assert!(rt; act_at(rt.alloc(), "2 idle\n")? == Some((2, Act::Idle)));
-    Ok(())
-}
-
-#[test]
-fn raw_entries_are_read(rt: HostRuntime) -> Result<(), Fail> {
-    let mut line = String::from_str(rt.alloc(), "1 raw ")?;
-    for _ in 0..64 {
-        line.push_str("0f")?;
-    }
-    line.push_str("\n")?;
-    let raw = Act::Raw { entry: [0x0f; 64] };
-    assert!(rt; act_at(rt.alloc(), line.as_str())? == Some((1, raw)));
-    Ok(())
 }
 
 #[test]
@@ -207,6 +102,11 @@ fn rewritten(alloc: Global, fails: &[u64]) -> Result<(Result<(), Failed>, BytesS
     Ok((answer, sink))
 }
 
+/// How many bytes are line feeds.
+fn feeds(text: &[u8]) -> usize {
+    text.iter().filter(|byte| **byte == b'\n').count()
+}
+
 #[test]
 fn a_script_is_written(rt: HostRuntime) -> Result<(), Fail> {
     let text = EACH_ACT.as_bytes();
@@ -217,8 +117,7 @@ fn a_script_is_written(rt: HostRuntime) -> Result<(), Fail> {
         let (answer, front) = rewritten(rt.alloc(), &[call])?;
         assert!(rt; answer == Err(Failed));
         assert!(rt; text.starts_with(front.bytes()));
-        let feeds = front.bytes().iter().filter(|byte| **byte == b'\n');
-        assert_eq!(rt; feeds.count(), lines);
+        assert!(rt; feeds(front.bytes()) == lines);
     }
     Ok(())
 }
@@ -247,9 +146,9 @@ fn fronts_are_read(rt: HostRuntime) -> Result<(), Fail> {
         let (read, end) = parse_front(rt.alloc(), &text)
             .ok()
             .ok_or("a script is there")?;
-        assert_eq!(rt; read.head.blocks, 130);
-        assert_eq!(rt; read.acts.list().len(), 5);
-        assert_eq!(rt; end, script.len());
+        assert!(rt; read.head.blocks == 130);
+        assert!(rt; read.acts.list().len() == 5);
+        assert!(rt; end == script.len());
     }
     Ok(())
 }

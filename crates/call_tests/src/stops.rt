@@ -1,10 +1,11 @@
 //! Calls that fail: pieces whose medium fails, an input or an output that does, and hosts and inputs that don't fit.
 
 use crate::programs::{
-    Given, Left, ONE_SHELF, PACE, TWO_SHELVES, block_of, called, called_by, joined,
+    Given, Left, ONE_SHELF, PACE, TWO_SHELVES, block_of, called, called_by, joined, steps_of,
 };
 use engine::{Status, Why};
 use mig_base::BytesSink;
+use mig_medium::Step;
 use std::alloc::{AllocError, Global};
 use std::process::Abort;
 use std::test::Fail;
@@ -93,6 +94,37 @@ reap 1 1 2 81 1 1
 end
 ";
 
+/// And of commands that write zeroes, verify and compare.
+const ZEROES: &str = "1 submit 1 zeroes 13 5 - -\n";
+
+const ZEROES_TEXT: &str = "\
+nvmigrate transcript 1
+ready
+act 1 1
+fetch 1 1 0 00 2
+piece 1 1 13 3 fault 2
+piece 1 1 16 2 ok
+post 1 1 2 80
+reap 1 1 2 80 1 1
+end
+";
+
+const VERIFY: &str = "1 submit 1 verify 13 5 - -\n";
+
+const COMPARE: &str = "1 submit 1 compare 13 5 0 -\n";
+
+const VERIFY_TEXT: &str = "\
+nvmigrate transcript 1
+ready
+act 1 1
+fetch 1 1 0 00 2
+piece 1 1 13 3 fault 2
+piece 1 1 16 2 ok
+post 1 1 2 81
+reap 1 1 2 81 1 1
+end
+";
+
 /// The script of one lane with these acts.
 fn script(alloc: Global, acts: &str) -> Result<Vec<u8>, AllocError> {
     joined(alloc, &[ONE_LANE, PACE, acts, "end\n"])
@@ -132,7 +164,14 @@ fn pieces_fail(rt: HostRuntime) -> Result<(), Fail> {
         ..TWO_SHELVES
     };
     writes(&rt, rt.alloc(), READ, failing, READ_TEXT)?;
+    writes(&rt, rt.alloc(), ZEROES, failing, ZEROES_TEXT)?;
+    writes(&rt, rt.alloc(), VERIFY, failing, VERIFY_TEXT)?;
+    writes(&rt, rt.alloc(), COMPARE, failing, VERIFY_TEXT)?;
     let mut left = writes(&rt, rt.alloc(), WRITE, failing, WRITE_TEXT)?;
+    let puts = [Step::Put(13), Step::Put(14), Step::Put(15)];
+    assert!(&rt; steps_of(&left.from, 0) == Some(puts.as_slice()));
+    let puts = [Step::Put(0), Step::Put(1)];
+    assert!(&rt; steps_of(&left.from, 1) == Some(puts.as_slice()));
     assert!(&rt; block_of(&mut left.from, 0, 14) == Some([0x5a; 512]));
     assert!(&rt; block_of(&mut left.from, 0, 15) == Some([0; 512]));
     assert!(&rt; block_of(&mut left.from, 1, 0) == Some([0x5a; 512]));
@@ -163,17 +202,24 @@ fn the_output_fails(rt: HostRuntime) -> Result<(), Fail> {
     Ok(())
 }
 
-/// The plan of a script, whose second line isn't taken.
+const SHOWN_FRONT: &str = "\
+controller nvmigrate virtual controller
+mdts 3
+namespace 1 blocks 32 bytes 512
+shelves 2 of 16
+";
+
+/// The plan of a script, whose fifth line isn't taken.
 #[test]
 fn the_output_of_show_fails(rt: HostRuntime) -> Result<(), Fail> {
     let failing = Given {
-        failing_writes: &[2],
+        failing_writes: &[5],
         ..ONE_SHELF
     };
     let text = script(rt.alloc(), READ)?;
     let left = called_by(&rt, rt.alloc(), &["show"], text, failing)?;
     assert!(&rt; left.status == Status::WriteFault);
-    assert!(&rt; left.output.bytes() == b"controller nvmigrate virtual controller\n".as_slice());
+    assert!(&rt; left.output.bytes() == SHOWN_FRONT.as_bytes());
     Ok(())
 }
 

@@ -10,6 +10,3 @@ mod queue;
 
 pub use change::Change;
 pub use queue::{BadHead, DataQueue, Full};
-
-#[cfg(test)]
-mod tests;

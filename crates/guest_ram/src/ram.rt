@@ -122,6 +122,3 @@ impl Ram {
         }
     }
 }
-
-#[cfg(test)]
-mod tests;

@@ -8,6 +8,3 @@ mod memory;
 pub use medium::Medium;
 pub use memory::MemMedium;
 pub use nvm_model::Step;
-
-#[cfg(test)]
-mod tests;

@@ -18,6 +18,3 @@ pub use event::{CoreEvent, NotNow};
 pub use law::moves_are_covered;
 pub use phase::CorePhase;
 pub use state::Core;
-
-#[cfg(test)]
-mod tests;

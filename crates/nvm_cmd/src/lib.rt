@@ -17,6 +17,3 @@ pub use completion::{finish, join_status};
 pub use cut::{piece, piece_count, pieces_cover};
 pub use job::{Checked, Job};
 pub use nvm_model::{Piece, PieceResult};
-
-#[cfg(test)]
-mod tests;

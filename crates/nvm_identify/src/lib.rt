@@ -11,6 +11,3 @@ mod namespace;
 pub use bytes::Length;
 pub use controller::{IdController, own_controller};
 pub use namespace::{IdNamespace, own_namespace};
-
-#[cfg(test)]
-mod tests;

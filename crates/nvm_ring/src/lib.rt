@@ -17,6 +17,3 @@ pub use guest_sq::GuestSq;
 pub use nvm_model::RingState;
 pub use place::{BadDoorbell, Full};
 pub use sq_ring::SqRing;
-
-#[cfg(test)]
-mod tests;

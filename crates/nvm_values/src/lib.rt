@@ -15,6 +15,3 @@ pub use cqe::Cqe;
 pub use op::Op;
 pub use sqe::Sqe;
 pub use status::Status;
-
-#[cfg(test)]
-mod tests;

@@ -3,7 +3,7 @@ use Rattle.std.proofs.Common.{◌≡◌, ℕ, zero, suc, ◌+◌, ◌-◌, ◌/�
 use Rattle.std.specs.Prelude.{map}
 use Rattle.std.specs.List.{AllByRecursion, All, flat_map}
 use Rattle.std.specs.Str.{bytes_eq}
-use Rattle.std.proofs.lemmas.Bool.{ltb-true, lt-ltb, leb-true, eqb-false, ne_eqb, and_parts, and_from}
+use Rattle.std.proofs.lemmas.Bool.{ltb-true, lt-ltb, leb-true, le-leb, eqb-false, ne_eqb, and_parts, and_from}
 use Rattle.std.proofs.lemmas.List.{append-nil, take_at, take_more_set, drop-set-lt, drop-replicate, take-append-drop, length-set, length-append, length-replicate, length-take-le}
 use Rattle.std.proofs.lemmas.List.Elements.{All-from_recursion, recursion_from_All, All-take, All-append, All-replicate}
 use Rattle.hex.specs.Hex.{encode_lower, lower_digits}
@@ -16,7 +16,7 @@ use Rattle.nvm_model.specs.declared.script.Head.{Head}
 use Rattle.nvm_model.specs.World.{set_of}
 use Rattle.nvm_model.specs.ScriptText.{act_line, op_word, page_word, IsPage, IsAct, IsActLine}
 use Rattle.script.specs.declared.form.Piece.TheVariants.{Maybe}
-use Rattle.script.specs.Words.{◌>>=◌, next, last, number_in, ranged_in, page_in, option_in, is_hex, bytes_in, op_in, is_numeral, is_row}
+use Rattle.script.specs.Words.{◌>>=◌, next, last, number_in, ranged_in, page_in, option_in, bytes_in, op_in, is_numeral, is_row}
 use Rattle.script.specs.ActWords.{fill_in, place_in, poke_in, pages_on, list_in, SubmitWords, submit_words, submit_of, submit_in, raw_in, bare_in, act_in, line_in, act_form, kind_form, is_act_form}
 use Rattle.script.proofs.WordLaws.{bind_some, bind_step, some_is, chosen, IsPlain, spaced}
 use Rattle.script.proofs.ValueLaws.{number_takes, number_again, numeral_again, ranged_takes, ranged_again, page_takes, page_again, decimal_plain, AreBytesIn, bytes_take, bytes_again, hex_again, hex_plain, is_text, page_text, IsBelow, option_takes, option_again, option_form, option_plain, op_text, op_takes, op_again, op_plain}
@@ -77,12 +77,8 @@ fill_takes pages ws a e =
     let hex : v.0 ≡ encode_lower (slice_index b.0 0 ∷ []) = tb.text ∙ ap encode_lower one.0 in
     subst (λ (x : Act). Spells pages (codes "fill") ws x) (some_is (Fill p.0 (slice_index b.0 0)) a b.2) (cc (e0, e1, tp.0, hex), (tp.1, one.1))
 
-hex_bounds : (low high : ℕ) (w : List ℕ) → is_hex low high w ≡ true → (low ≤ length w / 2) × (length w / 2 ≤ high)
-hex_bounds low high w e =
-    let p = and_parts (eqb (length w % 2) 0 && leb low (length w / 2) && leb (length w / 2) high) _ e in
-    let q = and_parts (eqb (length w % 2) 0 && leb low (length w / 2)) (leb (length w / 2) high) p.0 in
-    let r = and_parts (eqb (length w % 2) 0) (leb low (length w / 2)) q.0 in
-    (leb-true low (length w / 2) r.1, leb-true (length w / 2) high q.1)
+bounds : (low high n : ℕ) → leb low n && leb n high ≡ true → (low ≤ n) × (n ≤ high)
+bounds low high n e = let p = and_parts (leb low n) (leb n high) e in (leb-true low n p.0, leb-true n high p.1)
 
 poked : (pages page at used : ℕ) (ws : List (List ℕ)) (digits bs : List ℕ) → ws ≡ decimal page ∷ decimal at ∷ digits ∷ [] → page < pages → at ≤ 4096 - used → 1 ≤ used → used ≤ 32 → AreBytesIn used digits bs
     → Spells pages (codes "poke") ws (Poke page at (bs ++ replicate (32 - used) 0) used)
@@ -106,7 +102,7 @@ poke_takes pages ws a e =
     let d = bind_some (last v.0.1) _ a v.2 in
     let digits : List ℕ = d.0 in
     let used : ℕ = length digits / 2 in
-    elim (chosen (is_hex 1 32 digits) (page_in pages w.0.0 >>= λ page. place_in used v.0.0 >>= λ at. bytes_in used digits >>= λ bytes. Some (Poke page at (bytes ++ drop used (replicate 32 0)) used)) None (Some a) d.2) [
+    elim (chosen (leb 1 used && leb used 32) (page_in pages w.0.0 >>= λ page. place_in used v.0.0 >>= λ at. bytes_in used digits >>= λ bytes. Some (Poke page at (bytes ++ drop used (replicate 32 0)) used)) None (Some a) d.2) [
       | inl h ↦
           let p = bind_some (page_in pages w.0.0) _ a h.1 in
           let l = bind_some (place_in used v.0.0) _ a p.2 in
@@ -116,10 +112,10 @@ poke_takes pages ws a e =
           let e2 = last_takes v.0.1 digits d.1 in
           let tp = page_takes pages w.0.0 p.0 p.1 in
           let tl = ranged_takes 0 (4096 - used) v.0.0 l.0 l.1 in
-          let bounds = hex_bounds 1 32 digits h.0 in
+          let few = bounds 1 32 used h.0 in
           let zeros : drop used (replicate 32 0) ≡ replicate (32 - used) 0 = drop-replicate used 32 0 in
           subst (λ (x : Act). Spells pages (codes "poke") ws x) (ap (λ (z : List ℕ). Poke p.0 l.0 (b.0 ++ z) used) (sym zeros) ∙ some_is (Poke p.0 l.0 (b.0 ++ drop used (replicate 32 0)) used) a b.2)
-          (poked pages p.0 l.0 used ws digits b.0 (cc (e0, e1, e2, tp.0, tl.0)) tp.1 tl.2 bounds.0 bounds.1 (bytes_take used digits b.0 b.1))
+          (poked pages p.0 l.0 used ws digits b.0 (cc (e0, e1, e2, tp.0, tl.0)) tp.1 tl.2 few.0 few.1 (bytes_take used digits b.0 b.1))
       | inr h ↦ absurd cc
     ]
 
@@ -315,9 +311,8 @@ poke_again pages page at bytes used small f =
     let count : length bs ≡ used = length-take-le used bytes (omega (arith, long)) in
     let digits = length-encode_with lower_digits bs in
     let half : length (encode_lower bs) / 2 ≡ used = omega (arith, digits, count) in
-    rw (hex_again 1 32 bs (omega (arith, count)) (omega (arith, count)) fit)
-    (ap (λ (u : ℕ). page_in pages (decimal page) >>= λ p. place_in u (decimal at) >>= λ l. bytes_in u (encode_lower bs) >>= λ b. Some (Poke p l (b ++ drop u (replicate 32 0)) u)) half
-    ∙ bind_step (page_in pages (decimal page)) _ page _ (page_again pages page small f.0)
+    rw (half, le-leb 1 used some, le-leb used 32 few)
+    (bind_step (page_in pages (decimal page)) _ page _ (page_again pages page small f.0)
     (bind_step (place_in used (decimal at)) _ at _ (ranged_again 0 (4096 - used) at (omega arith) (omega arith) (omega arith))
     (bind_step (bytes_in used (encode_lower bs)) _ bs _ (bytes_again used bs count fit) (ap (λ (z : List ℕ). Some (Poke page at (bs ++ z) used)) (drop-replicate used 32 0) ∙ ap (λ (t : List ℕ). Some (Poke page at t used)) (sym f.5)))))
 

@@ -3,7 +3,7 @@ use Rattle.std.proofs.Common.{◌≡◌, ℕ, zero, suc, ◌<◌, ◌≤◌, ◌
 use Rattle.std.specs.List.{AllByRecursion, flat_map, list_all}
 use Rattle.std.proofs.lemmas.Bool.{eqb-true, eq-eqb, ne_eqb, ltb-true, and_parts, cases_Bool}
 use Rattle.std.proofs.lemmas.List.{append-nil}
-use Rattle.script.specs.Words.{◌>>=◌, behind, cut_at, first_longer, words_of, words_left, next}
+use Rattle.script.specs.Words.{◌>>=◌, behind, cut_at, first_longer, words_of, words_left, next, last}
 
 -- ---- steps
 
@@ -181,3 +181,14 @@ next_cut false text word rest h e = absurd cc
 pub next_all : (some : Bool) (text : List ℕ) → some ≡ true → cut_at 32 text ≡ None → next (words_left some text) ≡ Some (text, [])
 next_all true text h e = ap next (words_none text e)
 next_all false text h e = absurd cc
+
+some_left : (word text : List ℕ) → FirstWord text → last (word ∷ words_of text) ≡ None
+some_left word text f = ap (λ (ws : List (List ℕ)). last (word ∷ ws)) f.is
+
+pub last_cut : (some : Bool) (text : List ℕ) (x : List ℕ × List ℕ) → cut_at 32 text ≡ Some x → last (words_left some text) ≡ None
+last_cut true text x e = ap last (words_some text x.0 x.1 e) ∙ some_left x.0 x.1 (first_by x.1 (cut_at 32 x.1) (words_by x.1))
+last_cut false text x e = refl
+
+pub last_all : (some : Bool) (text : List ℕ) → some ≡ true → cut_at 32 text ≡ None → last (words_left some text) ≡ Some text
+last_all true text h e = ap last (words_none text e)
+last_all false text h e = absurd cc

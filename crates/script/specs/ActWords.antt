@@ -1,11 +1,11 @@
-use Rattle.std.specs.Prelude.{ℕ, ◌+◌, ◌-◌, ◌/◌, ◌&&◌, ◌||◌, Bool, false, List, [], ◌∷◌, ◌++◌, length, slice_index, slice_set, replicate, drop, codes, Option, Some, None, nat_lt, ◌==◌, if◌then◌else◌}
+use Rattle.std.specs.Prelude.{ℕ, ◌+◌, ◌-◌, ◌/◌, ◌&&◌, ◌||◌, Bool, false, List, [], ◌∷◌, ◌++◌, length, slice_index, slice_set, replicate, drop, codes, Option, Some, None, nat_le, nat_lt, ◌==◌, if◌then◌else◌}
 use Rattle.std.specs.Str.{bytes_eq}
 use Rattle.nvm_model.specs.declared.script.Act.{Act}
 use Rattle.nvm_model.specs.declared.script.Act.TheVariants.{Fill, Poke, List as PrpList, Submit, Raw, Wait, Idle}
 use Rattle.nvm_model.specs.declared.script.Head.{Head}
 use Rattle.nvm_model.specs.World.{set_of}
 use Rattle.script.specs.declared.form.Piece.TheVariants.{Numeral, Page, Command, Hex, Maybe}
-use Rattle.script.specs.Words.{◌>>=◌, next, last, number_in, ranged_in, page_in, option_in, is_hex, bytes_in, op_in, is_numeral, is_row}
+use Rattle.script.specs.Words.{◌>>=◌, next, last, number_in, ranged_in, page_in, option_in, bytes_in, op_in, is_numeral, is_row}
 
 -- Acts, by the words of their lines.
 
@@ -28,7 +28,7 @@ poke_in pages ws = do
   v ← next w.1
   digits ← last v.1
   let used = length digits / 2
-  if is_hex 1 32 digits then (page_in pages w.0 >>= λ page. place_in used v.0 >>= λ at. bytes_in used digits >>= λ bytes. Some (Poke page at (bytes ++ drop used (replicate 32 0)) used)) else None
+  if nat_le 1 used && nat_le used 32 then (page_in pages w.0 >>= λ page. place_in used v.0 >>= λ at. bytes_in used digits >>= λ bytes. Some (Poke page at (bytes ++ drop used (replicate 32 0)) used)) else None
 
 -- data pages of a lane that has so many, at most 8, put behind those that are found
 unfoldable pub pages_on : ℕ → List ℕ → ℕ → List (List ℕ) → Option (List ℕ × ℕ)

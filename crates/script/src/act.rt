@@ -3,7 +3,7 @@
 ghost use Rattle.std.specs.Prelude.{◌≡◌, ℕ, ◌≤◌, ◌<◌, replicate, length};
 ghost use Rattle.script.specs.ActWords.{fill_in, poke_in, pages_on, list_in, submit_in, raw_in, act_in, line_in, act_form, is_act_form};
 
-use crate::form::{Piece, is_hex, is_numeral, is_row};
+use crate::form::{Piece, is_numeral, is_row};
 use crate::line::Words;
 use crate::value::{bytes, number, op, option_in, page_in, ranged};
 use nvm_model::{Act, Head};
@@ -32,10 +32,10 @@ fn poke(words: &Words, pages: u16) -> Option<Act>
     let (page, rest) = words.next()?;
     let (at, rest) = rest.next()?;
     let digits = rest.last()?;
-    if !is_hex(digits, 1, 32) {
+    let used = digits.len() / 2;
+    if used < 1 || used > 32 {
         return None;
     }
-    let used = digits.len() / 2;
     let page = page_in(page, pages)?;
     let at = ranged(at, 0, 4096 - used as u64)? as u16;
     let mut written = [0; 32];

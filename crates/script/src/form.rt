@@ -60,7 +60,7 @@ fn are_lower_digits(word: &[u8]) -> bool
 }
 
 /// Whether the word has two digits in lower case for each byte, from `low` to `high` bytes.
-pub fn is_hex(word: &[u8], low: usize, high: usize) -> bool
+fn is_hex(word: &[u8], low: usize, high: usize) -> bool
     ensures { result ≡ is_hex low high word.now }
 {
     let count = word.len() / 2;

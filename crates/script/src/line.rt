@@ -19,6 +19,20 @@ pub fn cut(text: &[u8], end: u8) -> Option<(&[u8], &[u8])>
     }
 }
 
+/// The same at the first space. Words are short, so their bytes are looked at one by one.
+#[inline(always)]
+fn cut_word(text: &[u8]) -> Option<(&[u8], &[u8])>
+    ensures { Reads (λ x. (x.0.now, x.1.now)) result (cut_at 32 text.now) }
+{
+    for (at, byte) in text.iter().enumerate() {
+        if *byte == b' ' {
+            let (word, rest) = text.split_at(at);
+            return Some((word, &rest[1..]));
+        }
+    }
+    None
+}
+
 /// The words of a line that are left. A space ends a word. Contracts see their list.
 #[derive(Drop)]
 pub struct Words<'a> {
@@ -46,13 +60,14 @@ impl<'a> Words<'a> {
     }
 
     /// The first word, and those behind it.
+    #[inline(always)]
     pub fn next(&self) -> Option<(&'a [u8], Words<'a>)>
         ensures { Reads (λ x. (x.0.now, x.1)) result (next self.now) }
     {
         if !self.some {
             return None;
         }
-        match cut(self.text, b' ') {
+        match cut_word(self.text) {
             Some((word, rest)) => Some((word, Words::new(rest))),
             None => Some((
                 self.text,
@@ -65,12 +80,15 @@ impl<'a> Words<'a> {
     }
 
     /// The word, if one is left and no more.
+    #[inline(always)]
     pub fn last(&self) -> Option<&'a [u8]>
         ensures { Reads (λ w. w.now) result (last self.now) }
     {
-        let (word, rest) = self.next()?;
-        match rest.next() {
-            None => Some(word),
+        if !self.some {
+            return None;
+        }
+        match cut(self.text, b' ') {
+            None => Some(self.text),
             Some(_) => None,
         }
     }

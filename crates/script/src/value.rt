@@ -5,6 +5,7 @@ ghost use Rattle.script.specs.Words.{Reads, with_digit, digits_on, number_in, ra
 
 use nvm_values::Op;
 
+#[inline(always)]
 fn with_digit(n: u64, digit: u8) -> Option<u64>
     ensures { result ≡ with_digit n digit }
 {
@@ -15,6 +16,7 @@ fn with_digit(n: u64, digit: u8) -> Option<u64>
 }
 
 #[tactic(auto, unfolding(crate::specs::Words::digits_on))]
+#[inline(always)]
 fn digits(word: &[u8]) -> Option<u64>
     ensures { result ≡ digits_on 0 word.now }
 {
@@ -28,6 +30,7 @@ fn digits(word: &[u8]) -> Option<u64>
 }
 
 /// A decimal number of 64 bits.
+#[inline(always)]
 pub fn number(word: &[u8]) -> Option<u64>
     ensures { result ≡ number_in word.now }
 {
@@ -38,6 +41,7 @@ pub fn number(word: &[u8]) -> Option<u64>
 }
 
 /// A number that lies between two others.
+#[inline(always)]
 pub fn ranged(word: &[u8], low: u64, high: u64) -> Option<u64>
     ensures value { result ≡ ranged_in low high word.now }
     ensures low { IfSome result (λ n. low ≤ n) }
@@ -48,6 +52,7 @@ pub fn ranged(word: &[u8], low: u64, high: u64) -> Option<u64>
 }
 
 /// A data page of a lane that has so many.
+#[inline(always)]
 pub fn page_in(word: &[u8], pages: u16) -> Option<u16>
     ensures { result ≡ page_in pages word.now }
 {
@@ -60,6 +65,7 @@ pub fn page_in(word: &[u8], pages: u16) -> Option<u16>
 }
 
 /// A data page, or `-` for none.
+#[inline(always)]
 pub fn option_in(word: &[u8], pages: u16) -> Option<Option<u16>>
     ensures { result ≡ option_in pages word.now }
 {

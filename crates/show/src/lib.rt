@@ -78,6 +78,3 @@ fn write_shelves<K: Sink>(head: &Head, sink: &mut K) -> Result<(), Failed>
     line.push_last_field(head.shelf);
     write_line(line.bytes(), sink)
 }
-
-#[cfg(test)]
-mod tests;
