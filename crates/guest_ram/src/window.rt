@@ -35,8 +35,12 @@ fn zeroes() -> [u8; 4096]
 }
 
 impl Window {
-    // A zeroed window with from 1 to 256 data pages.
-    pub(crate) fn make(alloc: Global, lane: LaneNo, data_pages: u16) -> Result<Window, OutOfMemory>
+    /// A zeroed window with at most 256 data pages.
+    ///
+    /// # Errors
+    ///
+    /// `OutOfMemory` where there is no memory for its pages.
+    pub fn make(alloc: Global, lane: LaneNo, data_pages: u16) -> Result<Window, OutOfMemory>
         requires { data_pages ≤ 256 }
         ensures made { IfOk result
             (λ w. w ≡ record { lane = lane; pages = replicate (data_pages + 2) zero_page }) }

@@ -21,7 +21,7 @@ use nvm_ring::GuestSq;
 use nvm_values::{Op, Sqe};
 
 /// Writes what an act writes into the guest's data pages.
-pub(crate) fn write_act(lane: LaneNo, act: &Act, window: &mut Window)
+pub fn write_act(lane: LaneNo, act: &Act, window: &mut Window)
     requires window { (2 ≤ length window.old.pages) × (length window.old.pages ≤ 258) }
     requires act { IsAct (length window.old.pages - 2) act.now }
     ensures pages { data_pages window.new ≡ pages_after_act lane act.now (data_pages window.old) }
@@ -101,7 +101,7 @@ fn address_of(lane: LaneNo, page: Option<u16>) -> u64
 }
 
 /// The entry that an act submits, if it submits one.
-pub(crate) fn entry_of(lane: LaneNo, act: &Act) -> Option<Sqe>
+pub fn entry_of(lane: LaneNo, act: &Act) -> Option<Sqe>
     requires { (pages : ℕ) × IsAct pages act.now }
     ensures { option_to_list result ≡ submitted_by lane act.now }
 {

@@ -5,5 +5,6 @@
 mod act;
 mod guest;
 
+pub use act::{entry_of, write_act};
 pub use guest::{ActAnswer, Guest};
 pub use nvm_model::{Act, LaneSet as PairSet};

@@ -13,3 +13,4 @@ mod work;
 pub use namespace::Namespace;
 pub use nvm_model::{Outcome, Piece, PieceResult, ShelfEntry};
 pub use shelf::Shelf;
+pub use work::do_piece;

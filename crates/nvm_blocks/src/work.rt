@@ -115,7 +115,7 @@ fn read<M: Medium>(
 
 /// Does a piece whose first block is block `first` of the medium: each block moves once between the medium and its page,
 /// ascending, until a call of the medium fails or, for a Compare, a block differs.
-pub(crate) fn do_piece<M: Medium>(
+pub fn do_piece<M: Medium>(
     piece: &Piece,
     first: u32,
     window: &mut Window,

@@ -26,7 +26,7 @@ in_front P xs i j x y before all here there =
     subst P (get_or-take j xs i x before ∙ get_or_from_slice_get xs i x x here) (All-get_or P (take j xs) i x (omega (arith, before, long)) all)
 
 -- of the elements for which something isn't so there is one before which it is so of all
-one_place : {X : Type 0} (P : X → Type 0) (xs : List X) (i j : ℕ) (x y : X) →
+pub one_place : {X : Type 0} (P : X → Type 0) (xs : List X) (i j : ℕ) (x y : X) →
     All P (take i xs) → All P (take j xs) → slice_get xs i ≡ Some x → slice_get xs j ≡ Some y → (P x → ⊥) → (P y → ⊥) → j ≡ i
 one_place P xs i j x y before_i before_j here there not_x not_y =
     ⊎_elim (λ same. same)

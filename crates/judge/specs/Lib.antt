@@ -1,0 +1,9 @@
+pub mod Verdict
+pub mod Stage
+pub mod NextLine
+pub mod Decides
+pub mod Replay
+pub mod Piece
+pub mod Lane
+pub mod World
+pub mod Judging
