@@ -1,0 +1,3 @@
+pub mod FollowsLemmas
+pub mod ImageLemmas
+pub mod PairLemmas
