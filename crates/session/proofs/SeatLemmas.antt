@@ -1,4 +1,4 @@
-use Rattle.std.proofs.Common.{◌≡◌, ℕ, zero, suc, ◌+◌, ◌-◌, ◌*◌, ◌/◌, ◌%◌, ◌<◌, ◌≤◌, Bool, All, List, [], ◌++◌, get_or, length, map, replicate, set, take, drop, refl, sym, ap, subst, ◌∙◌, append-nil, length-set, get_or-set_same, arith}
+use Rattle.std.proofs.Common.{◌≡◌, ℕ, zero, suc, ◌-◌, ◌*◌, ◌/◌, ◌%◌, ◌<◌, ◌≤◌, Bool, List, [], ◌++◌, get_or, length, map, replicate, set, take, drop, refl, sym, ap, subst, ◌∙◌, append-nil, length-set, get_or-set_same, arith}
 use Rattle.std.proofs.Math.Nat.{div-lt_iff_lt-mul}
 use Rattle.std.proofs.lemmas.List.{drop_all, get_or_default, get_or-set_other, length-map, take_all}
 use Rattle.nvm_model.specs.declared.piece.Piece.{Piece}
@@ -16,7 +16,6 @@ use Rattle.nvm_blocks.proofs.ShelvesLemmas.{cleared_entries, cleared_media}
 use Rattle.guest_ram.specs.Window.{WindowState, data_pages, no_window}
 use Rattle.controller.specs.Pair.{ControllerState}
 use Rattle.session.specs.Lanes.{window_of}
-use Rattle.session.specs.Place.{PlaceState}
 use Rattle.session.specs.Seats.{DoesPieceAt, HasRooms, IsSameButWindow}
 use Rattle.session.specs.Shelves.{SameShelves}
 use Rattle.session.proofs.ShelvesLemmas.{called_same, cleared_shelves, same_more}

@@ -1,4 +1,4 @@
-use Rattle.std.proofs.Common.{◌≡◌, List, ◌+◌, ◌++◌, [], ◌∷◌, get_or, subst, sym, ap, ◌∙◌, arith}
+use Rattle.std.proofs.Common.{List, ◌+◌, ◌++◌, [], ◌∷◌, get_or, subst, sym, ap, ◌∙◌, arith}
 use Rattle.nvm_model.specs.declared.line.Line.{Line}
 use Rattle.session.specs.LaneParts.{Leads}
 use Rattle.session.specs.Phases.{DoesPieces, StandsNext}

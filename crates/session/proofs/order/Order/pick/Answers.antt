@@ -1,5 +1,5 @@
 use Rattle.std.proofs.Common.{◌∙◌, sym}
-use Rattle.session.proofs.OrderLemmas.{none_some}
+use Rattle.turns.proofs.NextPieceLaws.{none_some}
 use Rattle.session.proofs.order.Order.pick.Goals as goal
 
 pub returns-then-some-eq0-clause-none : goal.returns-then-some-eq0-clause-none

@@ -1,7 +1,7 @@
 use Rattle.std.proofs.Common.{◌≡◌, ◌+◌, ◌%◌, ⊎_elim, ℕ, inr, ap, sym, ◌∙◌, add-one}
 use Rattle.nvm_model.specs.Turn.{word_at, word_state}
 use Rattle.rand_xoshiro.specs.SplitMix64.{mix_u64}
-use Rattle.session.proofs.OrderLemmas.{picked}
+use Rattle.turns.proofs.NextPieceLaws.{picked}
 use Rattle.session.proofs.order.Order.pick_at.Goals as goal
 
 pub returns-clause-at : goal.returns-clause-at

@@ -1,4 +1,4 @@
-use Rattle.std.proofs.Common.{◌≡◌, ◌-◌, ◌<◌, ◌≤◌, get_or, length, subst, sym, refl, ap, ◌∙◌, arith}
+use Rattle.std.proofs.Common.{◌≡◌, ◌-◌, ◌<◌, ◌≤◌, get_or, length, subst, sym, arith}
 use Rattle.guest_ram.specs.Window.{WindowState, data_pages}
 use Rattle.nvm_blocks.specs.Namespace.{HasAppliedIn, IsForNamespace}
 use Rattle.nvm_blocks.specs.Work.{IsSameButData}
