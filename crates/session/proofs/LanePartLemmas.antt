@@ -5,7 +5,6 @@ use Rattle.std.proofs.lemmas.List.{length-append, length-map, map-append, take_a
 use Rattle.std.proofs.lemmas.List.Elements.{All-get_or}
 use Rattle.std.proofs.lemmas.List.Sums.{sum_by-cons}
 use Rattle.std.proofs.lemmas.Option.{slice_get_read, slice_get_within}
-use Rattle.nvm_values.specs.declared.sqe.Sqe.{Sqe}
 use Rattle.nvm_values.specs.Cqe.{CqeFields}
 use Rattle.nvm_values.specs.Status.{StatusPair}
 use Rattle.nvm_model.specs.declared.command.Command.{Command}
@@ -29,9 +28,8 @@ use Rattle.nvm_ring.specs.Stands.{TakesReaped}
 use Rattle.nvm_ring.proofs.QueueLemmas.{cq_stands}
 use Rattle.guest_ram.specs.Window.{WindowState}
 use Rattle.hall.specs.Plan.{PlanState, pieces_of}
-use Rattle.lanes.specs.declared.guest.ActAnswer.{ActAnswer}
-use Rattle.lanes.specs.Guest.{GuestState, Reaped, Reaps, Submits, lane_after}
-use Rattle.controller.specs.Pair.{AtLane, ControllerState, Fetches, IsFetched, PairState, Posts, RingsCq, RingsSq, fetch_line, lane_pieces, no_pair, outcomes_of, pair_of, post_line, told_fetch, with_pieces, worked}
+use Rattle.lanes.specs.Guest.{GuestState, Reaped, Reaps, lane_after}
+use Rattle.controller.specs.Pair.{AtLane, ControllerState, Fetches, IsFetched, PairState, Posts, RingsCq, fetch_line, lane_pieces, no_pair, outcomes_of, pair_of, post_line, told_fetch, with_pieces, worked}
 use Rattle.controller.specs.Pair.{Stands as ControllerStands}
 use Rattle.turns.specs.Parts.{ActsSome, ReapsSome}
 use Rattle.lanes.proofs.KeptLemmas.{fetches_keep, known_ends, posts_keep, same_ends}

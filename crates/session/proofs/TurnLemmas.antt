@@ -43,12 +43,9 @@ pub record Phases {M I : Type 0} (state : M → MediumState I) (moves : I → St
   pub quiet : AreQuiet s new.runs new.place.controller
   pub mix : new.order.mix ≡ s.head.mix
 
--- the phases from lanes on
-record From {M I : Type 0} (state : M → MediumState I) (moves : I → Step → Bool → I → Type 0) (s : Script) (old new : Machine M) (h : Here M) (events : List Line) : Type 0 where
-  turn : DoesTurn state moves s h events new
-  less : total_left s 1 turn.new.lanes < total_left s 1 h.lanes
-
-phases_from : {M I : Type 0} {state : M → MediumState I} {moves : I → Step → Bool → I → Type 0} {s : Script} {old new : Machine M} {events : List Line} → Phases state moves s old new events → (h : Here M) → StandsOn s old h → From state moves s old new h events
+-- from lanes on they are a turn, and less is left
+phases_from : {M I : Type 0} {state : M → MediumState I} {moves : I → Step → Bool → I → Type 0} {s : Script} {old new : Machine M} {events : List Line} → Phases state moves s old new events → (h : Here M) → StandsOn s old h →
+    (turn : DoesTurn state moves s h events new) × (total_left s 1 turn.new.lanes < total_left s 1 h.lanes)
 phases_from {M} {state = state} {moves} {s} {old} {new} {events} p h stands =
     let plan = p.plan h.lanes stands.lanes in
     let planned : Here M = record h { lanes = plan.new } in
@@ -62,9 +59,8 @@ phases_from {M} {state = state} {moves} {s} {old} {new} {events} p h stands =
     let frame : Frame s h.lanes plan.added plan.new works.new.lanes posts.added posts.new = record { planning = plan.part; kept = pieces_keep state moves (serial s) planned works.part.pieces works.new works.part.working; posting = posts.part } in
     let lines : plan.added ++ (works.added ++ posts.added) ≡ events =
     sym (append_assoc plan.added works.added posts.added) ∙ ap (λ (es : List Line). (es ++ works.added) ++ posts.added) (sym plan.events_are) ∙ ap (λ (es : List Line). es ++ posts.added) (sym works.events_are) ∙ sym posts.events_are in
-    let own : events ≡ plan.added ++ (map piece_line works.part.pieces ++ posts.added) = sym lines ∙ ap (λ (es : List Line). plan.added ++ (es ++ posts.added)) works.part.lines_are in
-    record {
-      turn = record {
+    let own : events ≡ plan.added ++ (map piece_line works.part.pieces ++ posts.added) = sym lines ∙ ap (λ (es : List Line). plan.added ++ (es ++ posts.added)) works.part.lines_are in (
+      record {
         done = record { plan = plan.added; pieces = works.part.pieces; posts = posts.added };
         new = record works.new { lanes = posts.new };
         turn = record {
@@ -83,13 +79,13 @@ phases_from {M} {state = state} {moves} {s} {old} {new} {events} p h stands =
           words = works.stands.words;
         };
         events_are = own;
-      };
-      less = frame_less is.head.burst.0 rest served not_complete frame;
-    }
+      },
+      frame_less is.head.burst.0 rest served not_complete frame,
+    )
 
 -- they are a turn
 pub turn_by_phases : {M I : Type 0} {state : M → MediumState I} {moves : I → Step → Bool → I → Type 0} {s : Script} {old new : Machine M} {events : List Line} → Phases state moves s old new events → (h : Here M) → StandsOn s old h → DoesTurn state moves s h events new
-turn_by_phases p h stands = (phases_from p h stands).turn
+turn_by_phases p h stands = (phases_from p h stands).0
 
 -- after which the machine is ready
 pub ready_after : {M I : Type 0} {state : M → MediumState I} {moves : I → Step → Bool → I → Type 0} {s : Script} {old new : Machine M} {events : List Line} → Phases state moves s old new events → IsReady s new
@@ -104,5 +100,5 @@ less_after p =
     let is = p.ready.script in
     let from = phases_from p p.ready.stood p.ready.stands in
     let before = work_is is p.ready.runs p.ready.quiet p.ready.stands.lanes in
-    let after = work_is is p.fit.own p.quiet from.turn.stands.lanes in
-    omega (arith, before, after, from.less)
+    let after = work_is is p.fit.own p.quiet from.0.stands.lanes in
+    omega (arith, before, after, from.1)

@@ -78,7 +78,8 @@ fn do_piece<M: Medium>(
         h events.old.items events.new.items }
     ensures one { (done : TheResult) × HasResultAt at done runs.old.items runs.new.items }
     ensures has { HasPlan script.now runs.new.items plan.now place.new }
-    ensures more { (vec_len events.new ≡ vec_len events.old + 1) × (vec_capacity events.new ≡ vec_capacity events.old) }
+    ensures more { (vec_len events.new ≡ vec_len events.old + 1)
+        × (vec_capacity events.new ≡ vec_capacity events.old) }
 {
     let (piece, index) = next_piece(script, runs, at, plan);
     let done = place.piece(&piece, index);

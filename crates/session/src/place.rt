@@ -1,7 +1,7 @@
-ghost use Rattle.std.specs.Prelude.{◌≡◌, ◌+◌, ◌≤◌, [], length, vec_capacity, vec_len};
+ghost use Rattle.std.specs.Prelude.{◌≡◌, ◌+◌, ◌/◌, ◌≤◌, [], ◌∷◌, length, slice_index_or, vec_capacity, vec_len};
 ghost use Rattle.nvm_model.specs.Turn.{Plans, PostsAll};
 ghost use Rattle.nvm_model.specs.World.{Lane};
-ghost use Rattle.nvm_blocks.specs.Namespace.{IsForNamespace};
+ghost use Rattle.nvm_blocks.specs.Namespace.{IsForNamespace, entries_of};
 ghost use Rattle.guest_ram.specs.Window.{data_pages};
 ghost use Rattle.hall.specs.Plan.{pieces_of};
 ghost use Rattle.controller.specs.Pair.{pair_of};
@@ -92,15 +92,18 @@ impl<M: Medium> Place<M> {
         );
     }
 
-    /// Does a piece, the one of this number of its lane's. Its media's shelves have room for its entry.
+    /// Does a piece, the one of this number of its lane's. Its entry is the only one of its shelf then.
     pub(crate) fn piece(&mut self, piece: &Piece, index: u32) -> PieceResult
         requires lane { piece.now.lane ≤ length self.old.windows }
         requires piece { IsForNamespace self.old.namespace
             (length (data_pages (window_of self.old.windows piece.now.lane))) piece.now }
         requires rooms { HasRooms self.old.namespace }
-        ensures { DoesPieceAt M.state M.moves piece.now result self.old self.new }
+        ensures done { DoesPieceAt M.state M.moves piece.now result self.old self.new }
+        ensures entry { slice_index_or (entries_of self.new.namespace)
+            (piece.now.span.first / self.old.namespace.shelf) []
+            ≡ record { lane = piece.now.lane; index = index; ticket = 0; result = result } ∷ [] }
     {
-        self.namespace.clear();
+        self.namespace.clear_at(piece.span.first);
         let at = usize::from(piece.lane.get()) - 1;
         let windows = self.ram.windows();
         self.controller

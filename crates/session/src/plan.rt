@@ -118,7 +118,8 @@ fn reap(
     requires room { vec_len events.old < vec_capacity events.old }
     ensures reaps { (l : Lane)
         → StandsFree script.now lane (seat_of run.old controller.old window.now) l
-        → Leads (ReapsSome result script.now lane) (StandsFree script.now lane (seat_of run.new controller.new window.now))
+        → Leads (ReapsSome result script.now lane)
+        (StandsFree script.now lane (seat_of run.new controller.new window.now))
         l events.old.items events.new.items }
     ensures step { IsGuestStep script.now lane (seat_of run.old controller.old window.now)
         (seat_of run.new controller.new window.now) }
@@ -186,7 +187,8 @@ fn do_next_act(
     requires room { vec_len events.old < vec_capacity events.old }
     ensures acts { (l : Lane)
         → StandsFree script.now lane (seat_of run.old controller.old window.old) l
-        → Leads (ActsSome result script.now lane) (StandsFree script.now lane (seat_of run.new controller.new window.new))
+        → Leads (ActsSome result script.now lane)
+        (StandsFree script.now lane (seat_of run.new controller.new window.new))
         l events.old.items events.new.items }
     ensures step { IsGuestStep script.now lane (seat_of run.old controller.old window.old)
         (seat_of run.new controller.new window.new) }

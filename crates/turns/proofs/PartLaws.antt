@@ -1,4 +1,4 @@
-use Rattle.std.proofs.Common.{◌≡◌, ℕ, ◌+◌, ◌-◌, ◌<◌, ◌≤◌, Bool, true, false, not, inl, inr, ⊎_elim, List, [], ◌∷◌, ◌++◌, Some, get_or, length, set, take, slice_get, refl, sym, ap, subst, ◌∙◌, arith}
+use Rattle.std.proofs.Common.{◌≡◌, ℕ, suc, ◌+◌, ◌-◌, ◌<◌, ◌≤◌, Bool, true, false, not, inl, inr, ⊎_elim, List, [], ◌∷◌, ◌++◌, Some, get_or, length, set, take, slice_get, slice_index_or, refl, sym, ap, subst, ◌∙◌, arith}
 use Rattle.std.proofs.lemmas.Bool.{cases_lt, false≢true}
 use Rattle.std.proofs.lemmas.Grind.{drop_more_same}
 use Rattle.std.proofs.lemmas.List.{drop-set-lt, get_or-drop, length-append, length-take-le, take_all, take_more, take_more_set}
@@ -11,10 +11,12 @@ use Rattle.nvm_model.specs.declared.script.Act.{Act}
 use Rattle.nvm_model.specs.declared.script.Act.TheVariants.{Idle}
 use Rattle.nvm_model.specs.declared.script.Script.{Script}
 use Rattle.nvm_model.specs.Event.{DoesAct, MayDo, pages_after_act, submitted_by}
+use Rattle.nvm_model.specs.ScriptText.{IsSet}
 use Rattle.nvm_model.specs.Turn.{ActsOn, InLanes, IsIdle, NoneLegal}
 use Rattle.nvm_model.specs.Turn.Kind.{Act as ActKind}
-use Rattle.nvm_model.specs.World.{Lane, acts_of, set_of}
+use Rattle.nvm_model.specs.World.{Lane, acts_of, new_lane, set_of}
 use Rattle.nvm_model.proofs.LaneLemmas.{lane_events_more}
+use Rattle.turns.specs.Frame.{AreAtRest, AreServed, IsAtRest}
 use Rattle.turns.specs.Parts.{ActsSome, ReapsSome, SoFar, Stops}
 use Rattle.turns.proofs.FrameLemmas.{lanes_more}
 
@@ -162,3 +164,22 @@ one_did {Part} {lanes} {new} {events} {more} i d lane there in_new x part =
           (subst (λ (ls : List Lane). InLanes Part 1 (take i lanes ++ l ∷ []) (events ++ more) ls) (sym (take_more_set new i lane in_new)) all);
       others = drop-set-lt (i + 1) new i lane (omega arith) ∙ drop_more_same new lanes i x.others;
     }
+
+-- A fact of each lane by its number is one of the list, whose first lane has number k.
+
+pub first_of : {X : Type 0} (k : ℕ) (x : X) (xs : List X) (d : X) → slice_index_or (x ∷ xs) (k - k) d ≡ x
+first_of k x xs d = let none : k - k ≡ 0 = omega arith in ap (λ (i : ℕ). slice_index_or (x ∷ xs) i d) none
+
+pub later_of : {X : Type 0} (k j : ℕ) (x : X) (xs : List X) (d : X) → k + 1 ≤ j → slice_index_or (x ∷ xs) (j - k) d ≡ slice_index_or xs (j - (k + 1)) d
+later_of k j x xs d later = let next : j - k ≡ suc (j - (k + 1)) = omega (arith, later) in ap (λ (i : ℕ). slice_index_or (x ∷ xs) i d) next
+
+pub at_rest_from : (s : Script) (k : ℕ) (lanes : List Lane) → ((j : ℕ) → k ≤ j → j < k + length lanes → IsAtRest s j (slice_index_or lanes (j - k) (new_lane 0))) → AreAtRest s k lanes
+at_rest_from s k [] each = tt
+at_rest_from s k (lane ∷ lanes) each = (
+  subst (λ (l : Lane). IsAtRest s k l) (first_of k lane lanes (new_lane 0)) (each k (omega arith) (omega arith)),
+  at_rest_from s (k + 1) lanes (λ j later there. subst (λ (l : Lane). IsAtRest s j l) (later_of k j lane lanes (new_lane 0) later) (each j (omega (arith, later)) (omega (arith, there)))),
+)
+
+pub served_from : (s : Script) (k : ℕ) (lanes : List Lane) → ((j : ℕ) → k ≤ j → j < k + length lanes → IsSet (set_of s.head j)) → AreServed s k lanes
+served_from s k [] each = tt
+served_from s k (lane ∷ lanes) each = (record { set = each k (omega arith) (omega arith) }, served_from s (k + 1) lanes (λ j later there. each j (omega (arith, later)) (omega (arith, there))))
