@@ -1,4 +1,5 @@
 pub mod LaneLemmas
+pub mod NextLemmas
 pub mod PlanLemmas
 pub mod StepLemmas
 pub mod WorkLemmas

@@ -1,2 +1,3 @@
 pub mod GuestLemmas
 pub mod StartLemmas
+pub mod KeptLemmas

@@ -15,7 +15,8 @@ use Rattle.nvm_model.specs.Trace.{piece_calls}
 use Rattle.nvm_model.proofs.ChainLemmas.{chain_keeps}
 use Rattle.nvm_model.proofs.MediaLemmas.{AreSized, call_size, length_joined, made_at}
 use Rattle.nvm_blocks.specs.ShelfState.{ShelfState}
-use Rattle.nvm_blocks.specs.Namespace.{HasAppliedIn, HasCalled, IsForNamespace, IsNamespace, IsShelf, with_entry}
+use Rattle.nvm_blocks.specs.Namespace.{HasAppliedIn, HasCalled, IsClearedAt, IsForNamespace, IsNamespace, IsShelf, with_entry}
+use Rattle.nvm_blocks.specs.Shelves.{cleared}
 use Rattle.nvm_blocks.specs.Work.{HasApplied, IsForShelf, IsSized}
 
 -- what is said of each element by its place stays where one is replaced
@@ -174,3 +175,19 @@ for_shelf state shelf shelves piece x pages h is_for is =
       within = (omega (arith, here.first, lies.0), omega (arith, here.first, here.size.size_is, lies.1));
       has_pages = is_for.has_pages;
     }
+
+-- Its entries were dropped.
+
+pub cleared_at : {M I : Type 0} (state : M → MediumState I) (moves : I → Step → Bool → I → Type 0) (shelf : ℕ) (shelves : List (ShelfState M)) (b : ℕ) (x : ShelfState M) → IsNamespace state shelf shelves → b < length shelves * shelf → x ≡ get_or shelves (b / shelf) x →
+    IsNamespace state shelf (set shelves (b / shelf) (cleared x)) × IsClearedAt b (record { shelves = shelves; shelf = shelf }) (record { shelves = set shelves (b / shelf) (cleared x); shelf = shelf })
+cleared_at {M} state moves shelf shelves b x h within is =
+    let i = b / shelf in
+    let there : i < length shelves = div_below b shelf (length shelves) (omega (arith, h.large)) within in (
+      stays_namespace state moves shelf shelves i [] x (cleared x) h there is (record { first = refl; room = refl; made = refl }),
+      record {
+        media = same_map (λ (s : ShelfState M). s.medium) shelves i x (cleared x) there is refl;
+        shelf = refl;
+        rooms = same_map (λ (s : ShelfState M). s.room) shelves i x (cleared x) there is refl;
+        entries = map-set (λ (s : ShelfState M). s.entries) shelves i (cleared x);
+      },
+    )

@@ -76,6 +76,13 @@ pub record HasAppliedIn {M I : Type 0} (state : M → MediumState I) (moves : I 
   pub done : IsPieceDone piece moved result memory new_memory
   pub called : HasCalled state moves n (all_at (piece.span.first / n.shelf) (piece_calls piece (piece.span.first % n.shelf) memory moved result.outcome)) new
 
+-- the shelf of block b has no entries, and nothing else changed
+pub record IsClearedAt {M : Type 0} (b : ℕ) (n new : NamespaceState M) : Type 0 where
+  pub media : media_of new ≡ media_of n
+  pub shelf : new.shelf ≡ n.shelf
+  pub rooms : rooms_of new ≡ rooms_of n
+  pub entries : entries_of new ≡ slice_set (entries_of n) (b / n.shelf) []
+
 -- Below, what is true of every namespace.
 
 -- shelf i, which begins where the shelves before it end

@@ -2,7 +2,7 @@ ghost use Rattle.std.specs.Prelude.{◌≡◌, ◌*◌, ◌/◌, ◌%◌, ◌<�
 ghost use Rattle.nvm_values.specs.declared.op.Op.TheVariants.{Read};
 ghost use Rattle.nvm_model.specs.Medium.{got, sent};
 ghost use Rattle.guest_ram.specs.Window.{data_pages};
-ghost use Rattle.nvm_blocks.specs.Namespace.{HasAppliedIn, HasCalled, HasRoom, block_call, IsForNamespace, block_count, entries_of, media_of, rooms_of, told_of, with_entry};
+ghost use Rattle.nvm_blocks.specs.Namespace.{HasAppliedIn, HasCalled, HasRoom, IsClearedAt, block_call, IsForNamespace, block_count, entries_of, media_of, rooms_of, told_of, with_entry};
 ghost use Rattle.nvm_blocks.specs.Shelves.{cleared};
 ghost use Rattle.nvm_blocks.specs.Work.{IsSameButData};
 
@@ -140,6 +140,15 @@ impl<M: Medium> Namespace<M> {
         ensures { self.new ≡ record self.old { shelves = map cleared self.old.shelves } }
     {
         clear_all(&mut self.shelves);
+    }
+
+    /// Drops the entries of the shelf that has block `b`.
+    pub fn clear_at(&mut self, b: u32)
+        requires { b < block_count self.old }
+        ensures { IsClearedAt b self.old self.new }
+    {
+        let shelf = &mut self.shelves[(b / self.shelf) as usize];
+        shelf.clear();
     }
 
     /// The media in order, without the shelves.

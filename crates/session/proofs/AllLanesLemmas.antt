@@ -1,8 +1,7 @@
-use Rattle.std.proofs.Common.{Global, Vec, ◌≡◌, ℕ, ◌+◌, ◌-◌, ◌*◌, ◌<◌, ◌≤◌, ⊎_elim, List, [], ◌∷◌, ◌++◌, get_or, length, map, take, drop, refl, sym, ap, subst, ◌∙◌, append_assoc, append-nil, get_or-set_same, length-set, set, arith}
+use Rattle.std.proofs.Common.{Global, Vec, ◌≡◌, ℕ, ◌+◌, ◌-◌, ◌<◌, ◌≤◌, ⊎_elim, List, ◌++◌, get_or, length, map, sym, ap, subst, ◌∙◌, append_assoc, get_or-set_same, length-set, set, arith}
 use Rattle.std.specs.List.{All}
 use Rattle.std.proofs.lemmas.Bool.{cases_eq}
-use Rattle.std.proofs.lemmas.List.{drop-set-lt, get_or-drop, get_or-set_other, length-take-le, take_all, take_more, take_more_set}
-use Rattle.std.proofs.lemmas.Grind.{drop_more_same}
+use Rattle.std.proofs.lemmas.List.{get_or-set_other}
 use Rattle.nvm_model.specs.declared.line.Line.{Line}
 use Rattle.nvm_model.specs.declared.script.Script.{Script}
 use Rattle.nvm_model.specs.Turn.{InLanes}
@@ -11,34 +10,25 @@ use Rattle.nvm_blocks.specs.Namespace.{NamespaceState}
 use Rattle.guest_ram.specs.Window.{WindowState}
 use Rattle.hall.specs.Plan.{PlanState, pieces_of}
 use Rattle.controller.specs.Pair.{ControllerState, IsFetched, PairState, lane_pieces, pair_of, told_fetch}
-use Rattle.turns.proofs.FrameLemmas.{lanes_more}
+use Rattle.turns.specs.Parts.{SoFar}
+use Rattle.turns.proofs.PartLaws.{all_did, one_did}
 use Rattle.session.specs.declared.lane_run.LaneRun.{LaneRun}
 use Rattle.session.specs.LaneParts.{HasMore, IsSameButPair, Leads}
 use Rattle.session.specs.Lanes.{HaveWindows, IsPlanned, IsRunOf, IsWindowOf, Stands, window_of}
-use Rattle.session.specs.Phases.{Fit, FitPlan, IsSameButPieces}
+use Rattle.session.specs.Phases.{Fit, IsSameButPieces}
 use Rattle.session.specs.Place.{AreRunsOf, IsPlaceOf, PlaceState, StandsFor}
 use Rattle.session.specs.Seats.{HasSeat, IsSameButSeat, IsSameButWindow, Sits}
 use Rattle.session.specs.Shelves.{IsNamespaceOf}
 
 -- A part of a turn, lane after lane.
 
--- the first n lanes did their part
-pub record SoFar (Part : ℕ → Lane → List Line → Lane → Type 0) (n : ℕ) (lanes : List Lane) (events : List Line) (new : List Lane) : Type 0 where
-  pub parts : InLanes Part 1 (take n lanes) events (take n new)
-  pub others : drop n new ≡ drop n lanes
-
--- none did
-pub none_yet : (Part : ℕ → Lane → List Line → Lane → Type 0) (Stood : List Lane → Type 0) (lanes : List Lane) (events : List Line) → Stood lanes → Leads (SoFar Part 0) Stood lanes events events
-none_yet Part Stood lanes events stands = record { new = lanes; added = []; part = record { parts = (refl, refl); others = refl }; stands = stands; events_are = sym (append-nil events) }
-
 -- all did
 pub all_led : {s : Script} {Part : ℕ → Lane → List Line → Lane → Type 0} {n : ℕ} {runs : List LaneRun} {controller : ControllerState} {windows : List WindowState} {lanes : List Lane} {events new_events : List Line} →
     length lanes ≡ s.head.lanes → s.head.lanes ≤ n → Leads (SoFar Part n) (StandsFor s runs controller windows) lanes events new_events → Leads (InLanes Part 1) (StandsFor s runs controller windows) lanes events new_events
-all_led {Part = Part} {n} {lanes = lanes} count all led = record {
+all_led {lanes = lanes} count all led = record {
   new = led.new;
   added = led.added;
-  part = subst (λ (ls : List Lane). InLanes Part 1 ls led.added led.new) (take_all n lanes (omega (arith, count, all)))
-      (subst (λ (ls : List Lane). InLanes Part 1 (take n lanes) led.added ls) (take_all n led.new (omega (arith, led.stands.count, all))) led.part.parts);
+  part = all_did (omega (arith, count, all)) (omega (arith, led.stands.count, all)) led.part;
   stands = led.stands;
   events_are = led.events_are;
 }
@@ -174,21 +164,10 @@ led_more {s = s} {Part} {runs} {old} {new} {lanes} {a} {b} {c} i k old_run run a
     subst (λ (j : ℕ). Stands s k (get_or runs j old_run) (pair_of old.controller k) (window_of old.windows k) (get_or led.new j d)) here (led.stands.each k old_run d (omega (arith, at)) (omega (arith, at, there))) in
     let stands : Sits s k old_run old l = subst (λ (r : LaneRun). Stands s k r (pair_of old.controller k) (window_of old.windows k) l) (sym run_is) stands_at in
     let to = step l stands in
-    let zero_more : i + 0 ≡ i = omega arith in
-    let same_lane : get_or lanes i d ≡ l =
-    sym (ap (λ (j : ℕ). get_or lanes j d) zero_more) ∙ sym (get_or-drop i lanes 0 d) ∙ sym (ap (λ (ls : List Lane). get_or ls 0 d) led.part.others) ∙ get_or-drop i led.new 0 d ∙ ap (λ (j : ℕ). get_or led.new j d) zero_more in
-    let front : take (i + 1) lanes ≡ take i lanes ++ l ∷ [] = take_more lanes i d in_lanes ∙ ap (λ (x : Lane). take i lanes ++ x ∷ []) same_lane in
-    let taken = length-take-le i lanes (omega (arith, in_lanes)) in
-    let number : k ≡ 1 + length (take i lanes) = omega (arith, taken, at) in
-    let more = lanes_more Part 1 (take i lanes) led.added (take i led.new) l to.added to.new led.part.parts (subst (λ (j : ℕ). Part j l to.added to.new) number to.part) in
     record {
       new = set led.new i to.new;
       added = led.added ++ to.added;
-      part = record {
-        parts = subst (λ (ls : List Lane). InLanes Part 1 ls (led.added ++ to.added) (take (i + 1) (set led.new i to.new))) (sym front)
-            (subst (λ (ls : List Lane). InLanes Part 1 (take i lanes ++ l ∷ []) (led.added ++ to.added) ls) (sym (take_more_set led.new i to.new in_new)) more);
-        others = drop-set-lt (i + 1) led.new i to.new (omega arith) ∙ drop_more_same led.new lanes i led.part.others;
-      };
+      part = one_did i d to.new in_lanes in_new led.part (subst (λ (j : ℕ). Part j l to.added to.new) at to.part);
       stands = stands_more i k run to.new at there fit.own.count same led.stands to.stands;
       events_are = to.events_are ∙ ap (λ (es : List Line). es ++ to.added) led.events_are ∙ append_assoc a led.added to.added;
     }
@@ -215,9 +194,6 @@ planned_more {s} {new = new} {new_plan = new_plan} i k at same pieces this plann
     (cases_eq j k)
 
 -- Events.
-
-pub no_more : (events : Vec Line Global) → HasMore 0 events events
-no_more events = record { fewer = omega arith; few = omega arith; capacity = refl }
 
 pub more_more : {m n all : ℕ} {a b c : Vec Line Global} → all ≡ m + n → HasMore m a b → HasMore n b c → HasMore all a c
 more_more is x y = record { fewer = omega (arith, x.fewer, y.fewer); few = omega (arith, x.few, y.few, is); capacity = y.capacity ∙ x.capacity }

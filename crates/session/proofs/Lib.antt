@@ -1,11 +1,9 @@
 pub mod AllLanesLemmas
-pub mod CommandLemmas
 pub mod CopyLemmas
 pub mod LaneLemmas
 pub mod LanePartLemmas
 pub mod MemoryLemmas
 pub mod OrderLemmas
-pub mod PieceLemmas
 pub mod RestLemmas
 pub mod SeatLemmas
 pub mod ShelvesLemmas

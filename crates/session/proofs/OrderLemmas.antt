@@ -1,20 +1,17 @@
-use Rattle.std.proofs.Common.{◌≡◌, ℕ, zero, suc, ◌+◌, ◌-◌, ◌*◌, ◌%◌, ◌<◌, ◌≤◌, ◌⊎◌, ⊎_elim, Bool, cond, List, [], ◌∷◌, ◌++◌, All, length, map, sum, take, slice_index_or, slice_set, refl, sym, ap, subst, ◌∙◌, arith, append_assoc, append-nil}
-use Rattle.std.proofs.lemmas.Bool.{cases_eq, ne_eqb}
-use Rattle.std.proofs.lemmas.List.{length-append, length-set, map-append, take_more, get_or-set_same, get_or-set_other}
-use Rattle.std.proofs.lemmas.List.Elements.{All-nil, All-cons, All-from_get_or, All-head, All-tail}
+use Rattle.std.proofs.Common.{◌≡◌, ℕ, ◌+◌, ◌-◌, ◌*◌, ◌<◌, ◌≤◌, ◌⊎◌, ⊎_elim, Bool, List, [], ◌∷◌, ◌++◌, All, length, map, sum, slice_index_or, slice_set, refl, sym, ap, subst, ◌∙◌, arith, append_assoc, append-nil}
+use Rattle.std.proofs.lemmas.Bool.{cases_eq}
+use Rattle.std.proofs.lemmas.List.{length-append, length-set, map-append, get_or-set_same, get_or-set_other}
+use Rattle.std.proofs.lemmas.List.Elements.{All-from_get_or, All-head, All-tail}
 use Rattle.std.proofs.lemmas.List.Sums.{sum_by-cons, sum_by-set}
 use Rattle.nvm_model.specs.declared.line.Line.{Line}
 use Rattle.nvm_model.specs.declared.piece.PieceResult.{PieceResult}
 use Rattle.nvm_model.specs.declared.script.Script.{Script}
 use Rattle.nvm_model.specs.declared.trace.Step.{Step}
 use Rattle.nvm_model.specs.Medium.{MediumState}
-use Rattle.nvm_model.specs.Turn.{pick_at, with_some, word_at, word_state}
-use Rattle.nvm_model.specs.World.{new_lane}
-use Rattle.nvm_model.proofs.ChainLemmas.{chain_keeps, chain_more}
+use Rattle.nvm_model.specs.Turn.{word_state}
+use Rattle.nvm_model.proofs.ChainLemmas.{chain_more}
 use Rattle.hall.specs.Plan.{PlanState, pieces_of}
-use Rattle.turns.specs.Frame.{AreSameQueues, IsSameQueue}
-use Rattle.turns.specs.Run.{Here, IsPiece, MayBeNext, PieceCalled, piece_line}
-use Rattle.turns.proofs.FrameLemmas.{same_queues, same_queues_more, set_same_queues}
+use Rattle.turns.specs.Run.{Here, IsPiece, MayBeNext, piece_line}
 use Rattle.session.specs.declared.lane_run.LaneRun.{LaneRun}
 use Rattle.session.specs.declared.order.Order.{Order}
 use Rattle.session.specs.LaneParts.{Leads}
@@ -23,55 +20,6 @@ use Rattle.session.specs.Phases.{DoesPieces, HasPlan, StandsNext, StandsOver}
 use Rattle.session.specs.Place.{PlaceState, StandsOn, machine, serial}
 use Rattle.session.specs.Work.{AreLeft, HasResult, HasResultAt}
 use Rattle.session.proofs.WorkLemmas.{element_at, pieces_fit}
-
--- Which lane is next.
-
--- where the order is mixed, a word picks
-pub picked : (mix n count : ℕ) → (mix ≡ 0 → ⊥) → pick_at mix n count ≡ word_at mix n % count
-picked mix n count mixed = ap (λ (b : Bool). cond b 0 (word_at mix n % count)) (ne_eqb mix 0 mixed)
-
--- one lane more behind, with some left
-some_behind : (k : ℕ) (left : List ℕ) (n : ℕ) → 1 ≤ n → length (with_some k (left ++ n ∷ [])) ≡ length (with_some k left) + 1
-some_behind k [] zero some = absurd (omega (arith, some))
-some_behind k [] (suc n) some = refl
-some_behind k (zero ∷ others) n some = some_behind (k + 1) others n some
-some_behind k (suc m ∷ others) n some = omega (arith, some_behind (k + 1) others n some)
-
--- or with none
-none_behind : (k : ℕ) (left : List ℕ) → length (with_some k (left ++ 0 ∷ [])) ≡ length (with_some k left)
-none_behind k [] = refl
-none_behind k (zero ∷ others) = none_behind (k + 1) others
-none_behind k (suc m ∷ others) = omega (arith, none_behind (k + 1) others)
-
--- the same of the lanes up to a place
-pub some_more : (left : List ℕ) (i : ℕ) → i < length left → 1 ≤ slice_index_or left i 0 → length (with_some 1 (take (i + 1) left)) ≡ length (with_some 1 (take i left)) + 1
-some_more left i there some = ap (λ (l : List ℕ). length (with_some 1 l)) (take_more left i 0 there) ∙ some_behind 1 (take i left) (slice_index_or left i 0) some
-
--- or with none
-pub none_more : (left : List ℕ) (i : ℕ) → i < length left → slice_index_or left i 0 ≡ 0 → length (with_some 1 (take (i + 1) left)) ≡ length (with_some 1 (take i left))
-none_more left i there none =
-    ap (λ (l : List ℕ). length (with_some 1 l)) (take_more left i 0 there)
-    ∙ ap (λ (m : ℕ). length (with_some 1 (take i left ++ m ∷ []))) none
-    ∙ none_behind 1 (take i left)
-
--- where a lane with some left stands among those
-pub some_at : (k : ℕ) (left : List ℕ) (place : ℕ) → place < length left → 1 ≤ slice_index_or left place 0 →
-    (length (with_some k (take place left)) < length (with_some k left)) × (slice_index_or (with_some k left) (length (with_some k (take place left))) 0 ≡ k + place)
-some_at k [] place there some = absurd (omega (arith, there))
-some_at k (zero ∷ others) zero there some = absurd (omega (arith, some))
-some_at k (suc n ∷ others) zero there some = (omega arith, omega arith)
-some_at k (zero ∷ others) (suc place) there some =
-    let later = some_at (k + 1) others place (omega (arith, there)) some in
-    (later.0, omega (arith, later.1))
-some_at k (suc n ∷ others) (suc place) there some =
-    let later = some_at (k + 1) others place (omega (arith, there)) some in
-    (omega (arith, later.0), omega (arith, later.1))
-
--- where no lane has some left, all have none
-pub none_some : (k : ℕ) (left : List ℕ) → length (with_some k left) ≡ 0 → All (λ (n : ℕ). n ≡ 0) left
-none_some k [] none = All-nil (λ (n : ℕ). n ≡ 0)
-none_some k (zero ∷ others) none = All-cons (λ (n : ℕ). n ≡ 0) 0 others refl (none_some (k + 1) others none)
-none_some k (suc m ∷ others) none = absurd (omega (arith, none))
 
 -- Pieces in their order.
 
@@ -106,25 +54,6 @@ works_more {state = state} {moves} {s} {new_order = new_order} {h = h} {a} k x n
 pub works_to : {M I : Type 0} {state : M → MediumState I} {moves : I → Step → Bool → I → Type 0} {s : Script} {runs : List LaneRun} {order same : Order} {place : PlaceState M} {h : Here M} {a b : List Line} → same ≡ order →
     Leads (DoesPieces state moves s) (StandsOn s (machine runs order place)) h a b → Leads (DoesPieces state moves s) (StandsOn s (machine runs same place)) h a b
 works_to {state = state} {moves} {s} {runs} {place = place} {h} {a} {b} is x = subst (λ (o : Order). Leads (DoesPieces state moves s) (StandsOn s (machine runs o place)) h a b) (sym is) x
-
--- pieces leave the lanes' queues
-one_keeps : {M I : Type 0} {state : M → MediumState I} {moves : I → Step → Bool → I → Type 0} {s : Script} {old new : Here M} {p : PieceCalled} → IsPiece state moves (serial s) old p new → AreSameQueues old.lanes new.lanes
-one_keeps {old = old} {new} {p} is =
-    let after = is.does.after in
-    let lane = slice_index_or old.lanes (p.lane - 1) (new_lane 0) in
-    let same : IsSameQueue lane is.lane = record {
-      acts = ap (λ l. l.acts) after;
-      submitted = ap (λ l. l.submitted) after;
-      fetched = ap (λ l. l.fetched) after;
-      posted = ap (λ l. l.posted) after;
-      reaped = ap (λ l. l.reaped) after;
-      running = ap (λ l. length l.running) after ∙ length-set lane.running is.does.place _;
-    } in
-    subst (λ ls. AreSameQueues old.lanes ls) (sym is.lanes_are) (set_same_queues old.lanes (p.lane - 1) (new_lane 0) is.lane same)
-
-pub pieces_keep : {M I : Type 0} {state : M → MediumState I} {moves : I → Step → Bool → I → Type 0} {s : Script} {old new : Here M} {lines : List Line} → DoesPieces state moves s old lines new → AreSameQueues old.lanes new.lanes
-pieces_keep {M} {state = state} {moves} {s} {old} {new} does =
-    chain_keeps (IsPiece state moves (serial s)) (λ (h : Here M). AreSameQueues old.lanes h.lanes) (λ x p y one kept. same_queues_more old.lanes x.lanes y.lanes kept (one_keeps one)) old does.pieces new does.working (same_queues old.lanes)
 
 -- the words of an order whose mix is the script's
 pub words_of : (s : Script) (n : ℕ) (order : Order) → order.mix ≡ s.head.mix → HasWords s n order → (order.mix ≡ 0) ⊎ (order.words ≡ word_state order.mix n)

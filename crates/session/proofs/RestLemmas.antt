@@ -1,4 +1,4 @@
-use Rattle.std.proofs.Common.{◌≡◌, ℕ, suc, ◌+◌, ◌-◌, ◌<◌, ◌≤◌, List, [], ◌∷◌, length, slice_index_or, refl, sym, ap, subst, ◌∙◌, arith}
+use Rattle.std.proofs.Common.{◌≡◌, ℕ, ◌+◌, ◌-◌, ◌<◌, ◌≤◌, List, [], ◌∷◌, length, slice_index_or, refl, sym, ap, ◌∙◌, arith}
 use Rattle.nvm_model.specs.declared.script.Script.{Script}
 use Rattle.nvm_model.specs.History.{Complete, IsLaneComplete}
 use Rattle.nvm_model.specs.Ring.{places_between}
@@ -11,6 +11,7 @@ use Rattle.nvm_ring.proofs.QueueLemmas.{last_told, told_few}
 use Rattle.controller.specs.Pair.{ControllerState, PairState, outcomes_of, pair_of, worked}
 use Rattle.turns.specs.Frame.{AreAtRest, AreServed, IsAtRest, total_left, work_left}
 use Rattle.turns.specs.Run.{among}
+use Rattle.turns.proofs.PartLaws.{at_rest_from, first_of, later_of, served_from}
 use Rattle.session.specs.declared.lane_run.LaneRun.{LaneRun}
 use Rattle.session.specs.Lanes.{IsRunOf, Stands}
 use Rattle.session.specs.Place.{AreAllDone, AreQuiet, AreRunsOf, StandsFor, run_work, total_work}
@@ -78,24 +79,7 @@ lane_work {s} {k} {run} {pair} {lane = lane} is set stands between =
     ap (λ r. places_between r.size r.head r.tail) stands.ends.sq_is ∙ places_between-mods sq lane.fetched (length lane.submitted) o.fetched few in
     omega (arith, stands.acts, acts, places, none, empty, stands.guest_ends.waits)
 
--- All lanes. A fact of each of them, by its number, is one of the list, whose first has number k.
-
-first_of : {X : Type 0} (k : ℕ) (x : X) (xs : List X) (d : X) → slice_index_or (x ∷ xs) (k - k) d ≡ x
-first_of k x xs d = let none : k - k ≡ 0 = omega arith in ap (λ (i : ℕ). slice_index_or (x ∷ xs) i d) none
-
-later_of : {X : Type 0} (k j : ℕ) (x : X) (xs : List X) (d : X) → k + 1 ≤ j → slice_index_or (x ∷ xs) (j - k) d ≡ slice_index_or xs (j - (k + 1)) d
-later_of k j x xs d later = let next : j - k ≡ suc (j - (k + 1)) = omega (arith, later) in ap (λ (i : ℕ). slice_index_or (x ∷ xs) i d) next
-
-at_rest_from : (s : Script) (k : ℕ) (lanes : List Lane) → ((j : ℕ) → k ≤ j → j < k + length lanes → IsAtRest s j (slice_index_or lanes (j - k) (new_lane 0))) → AreAtRest s k lanes
-at_rest_from s k [] each = tt
-at_rest_from s k (lane ∷ lanes) each = (
-  subst (λ (l : Lane). IsAtRest s k l) (first_of k lane lanes (new_lane 0)) (each k (omega arith) (omega arith)),
-  at_rest_from s (k + 1) lanes (λ j later there. subst (λ (l : Lane). IsAtRest s j l) (later_of k j lane lanes (new_lane 0) later) (each j (omega (arith, later)) (omega (arith, there)))),
-)
-
-served_from : (s : Script) (k : ℕ) (lanes : List Lane) → ((j : ℕ) → k ≤ j → j < k + length lanes → IsSet (set_of s.head j)) → AreServed s k lanes
-served_from s k [] each = tt
-served_from s k (lane ∷ lanes) each = (record { set = each k (omega arith) (omega arith) }, served_from s (k + 1) lanes (λ j later there. each j (omega (arith, later)) (omega (arith, there))))
+-- All lanes.
 
 work_from : (s : Script) (k : ℕ) (runs : List LaneRun) (controller : ControllerState) (lanes : List Lane) → length runs ≡ length lanes →
     ((j : ℕ) (d : LaneRun) → k ≤ j → j < k + length lanes → run_work (slice_index_or runs (j - k) d) (pair_of controller j) ≡ work_left s j (slice_index_or lanes (j - k) (new_lane 0))) → total_work k runs controller ≡ total_left s k lanes

@@ -1,14 +1,13 @@
-use Rattle.std.proofs.Common.{◌≡◌, ℕ, ◌*◌, ◌≤◌, Bool, List, length, map, refl, sym, ap, subst, ◌∙◌}
+use Rattle.std.proofs.Common.{◌≡◌, ℕ, ◌*◌, ◌≤◌, Bool, List, length, refl, sym, ap, subst, ◌∙◌}
 use Rattle.std.specs.List.{All}
 use Rattle.std.proofs.lemmas.List.{length-map}
 use Rattle.nvm_model.specs.declared.script.Head.{Head}
 use Rattle.nvm_model.specs.declared.trace.Step.{Step}
 use Rattle.nvm_model.specs.Medium.{At, MediumState}
-use Rattle.nvm_blocks.specs.Namespace.{HasCalled, NamespaceState, block_count, rooms_of, told_of}
-use Rattle.nvm_blocks.specs.Shelves.{cleared}
+use Rattle.nvm_blocks.specs.ShelfState.{ShelfState}
+use Rattle.nvm_blocks.specs.Namespace.{HasCalled, IsClearedAt, NamespaceState, block_count, told_of}
 use Rattle.nvm_blocks.specs.Work.{IsSized}
 use Rattle.nvm_blocks.proofs.NamespaceLaws.{as_many_shelves}
-use Rattle.nvm_blocks.proofs.ShelvesLemmas.{cleared_rooms}
 use Rattle.session.specs.Shelves.{IsNamespaceOf, SameShelves}
 
 -- Namespaces of the same shelves.
@@ -23,12 +22,12 @@ same_more x y = record { shelf = y.shelf ∙ x.shelf; count = y.count ∙ x.coun
 pub called_same : {M I : Type 0} {state : M → MediumState I} {moves : I → Step → Bool → I → Type 0} {n new : NamespaceState M} {calls : List At} → HasCalled state moves n calls new → SameShelves n new
 called_same called = record { shelf = called.shelf; count = as_many_shelves called; rooms = called.rooms }
 
--- and so does dropping their entries
-pub cleared_shelves : {M : Type 0} {n new : NamespaceState M} → new ≡ record n { shelves = map cleared n.shelves } → SameShelves n new
-cleared_shelves {M} {n} is = record {
-  shelf = ap (λ (m : NamespaceState M). m.shelf) is;
-  count = ap (λ (m : NamespaceState M). length m.shelves) is ∙ length-map n.shelves cleared;
-  rooms = ap (λ (m : NamespaceState M). rooms_of m) is ∙ cleared_rooms n.shelves;
+-- and so does dropping the entries of one
+pub cleared_shelves : {M : Type 0} {b : ℕ} {n new : NamespaceState M} → IsClearedAt b n new → SameShelves n new
+cleared_shelves {M} {n = n} {new} is = record {
+  shelf = is.shelf;
+  count = sym (length-map new.shelves (λ (s : ShelfState M). s.room)) ∙ ap length is.rooms ∙ length-map n.shelves (λ (s : ShelfState M). s.room);
+  rooms = is.rooms;
 }
 
 -- as many blocks

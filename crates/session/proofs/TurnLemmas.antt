@@ -1,4 +1,4 @@
-use Rattle.std.proofs.Common.{◌≡◌, ◌<◌, ◌+◌, ℕ, List, [], ◌∷◌, ◌++◌, map, Bool, refl, sym, ap, subst, ◌∙◌, append_assoc, arith}
+use Rattle.std.proofs.Common.{◌≡◌, ◌<◌, List, [], ◌++◌, map, Bool, sym, ap, ◌∙◌, append_assoc, arith}
 use Rattle.nvm_model.specs.declared.line.Line.{Line}
 use Rattle.nvm_model.specs.declared.script.Script.{Script}
 use Rattle.nvm_model.specs.declared.trace.Step.{Step}
@@ -11,14 +11,11 @@ use Rattle.turns.specs.Frame.{Frame, total_left}
 use Rattle.turns.specs.Run.{Here, NoneLeft, among, piece_line}
 use Rattle.turns.proofs.FrameLemmas.{frame_less, frame_some, no_first}
 use Rattle.session.specs.declared.lane_run.LaneRun.{LaneRun}
-use Rattle.session.specs.declared.order.Order.{Order}
 use Rattle.session.specs.LaneParts.{Leads}
-use Rattle.session.specs.Lanes.{HasWords}
-use Rattle.session.specs.Phases.{AreDone, DoesPieces, Fit, HasPlan}
+use Rattle.session.specs.Phases.{DoesPieces, Fit}
 use Rattle.session.specs.Place.{AreAllDone, AreQuiet, DoesTurn, IsReady, Machine, PlaceState, StandsFor, StandsOn, machine, serial, total_work}
-use Rattle.session.proofs.OrderLemmas.{pieces_keep}
+use Rattle.turns.proofs.NextPieceLaws.{pieces_keep}
 use Rattle.session.proofs.RestLemmas.{are_served, at_rest, done_is, work_is}
-use Rattle.session.proofs.WorkLemmas.{none_is_left}
 
 -- A turn by its phases.
 
@@ -46,12 +43,9 @@ pub record Phases {M I : Type 0} (state : M → MediumState I) (moves : I → St
   pub quiet : AreQuiet s new.runs new.place.controller
   pub mix : new.order.mix ≡ s.head.mix
 
--- the phases from lanes on
-record From {M I : Type 0} (state : M → MediumState I) (moves : I → Step → Bool → I → Type 0) (s : Script) (old new : Machine M) (h : Here M) (events : List Line) : Type 0 where
-  turn : DoesTurn state moves s h events new
-  less : total_left s 1 turn.new.lanes < total_left s 1 h.lanes
-
-phases_from : {M I : Type 0} {state : M → MediumState I} {moves : I → Step → Bool → I → Type 0} {s : Script} {old new : Machine M} {events : List Line} → Phases state moves s old new events → (h : Here M) → StandsOn s old h → From state moves s old new h events
+-- from lanes on they are a turn, and less is left
+phases_from : {M I : Type 0} {state : M → MediumState I} {moves : I → Step → Bool → I → Type 0} {s : Script} {old new : Machine M} {events : List Line} → Phases state moves s old new events → (h : Here M) → StandsOn s old h →
+    (turn : DoesTurn state moves s h events new) × (total_left s 1 turn.new.lanes < total_left s 1 h.lanes)
 phases_from {M} {state = state} {moves} {s} {old} {new} {events} p h stands =
     let plan = p.plan h.lanes stands.lanes in
     let planned : Here M = record h { lanes = plan.new } in
@@ -62,12 +56,11 @@ phases_from {M} {state = state} {moves} {s} {old} {new} {events} p h stands =
     let rest = at_rest is p.ready.runs p.ready.quiet stands.lanes in
     let served = are_served s h.lanes is stands.lanes.count in
     let not_complete : Complete s (among h.lanes) → ⊥ = λ complete. p.due (done_is p.ready.runs stands.lanes complete) in
-    let frame : Frame s h.lanes plan.added plan.new works.new.lanes posts.added posts.new = record { planning = plan.part; kept = pieces_keep works.part; posting = posts.part } in
+    let frame : Frame s h.lanes plan.added plan.new works.new.lanes posts.added posts.new = record { planning = plan.part; kept = pieces_keep state moves (serial s) planned works.part.pieces works.new works.part.working; posting = posts.part } in
     let lines : plan.added ++ (works.added ++ posts.added) ≡ events =
     sym (append_assoc plan.added works.added posts.added) ∙ ap (λ (es : List Line). (es ++ works.added) ++ posts.added) (sym plan.events_are) ∙ ap (λ (es : List Line). es ++ posts.added) (sym works.events_are) ∙ sym posts.events_are in
-    let own : events ≡ plan.added ++ (map piece_line works.part.pieces ++ posts.added) = sym lines ∙ ap (λ (es : List Line). plan.added ++ (es ++ posts.added)) works.part.lines_are in
-    record {
-      turn = record {
+    let own : events ≡ plan.added ++ (map piece_line works.part.pieces ++ posts.added) = sym lines ∙ ap (λ (es : List Line). plan.added ++ (es ++ posts.added)) works.part.lines_are in (
+      record {
         done = record { plan = plan.added; pieces = works.part.pieces; posts = posts.added };
         new = record works.new { lanes = posts.new };
         turn = record {
@@ -86,13 +79,13 @@ phases_from {M} {state = state} {moves} {s} {old} {new} {events} p h stands =
           words = works.stands.words;
         };
         events_are = own;
-      };
-      less = frame_less is.head.burst.0 rest served not_complete frame;
-    }
+      },
+      frame_less is.head.burst.0 rest served not_complete frame,
+    )
 
 -- they are a turn
 pub turn_by_phases : {M I : Type 0} {state : M → MediumState I} {moves : I → Step → Bool → I → Type 0} {s : Script} {old new : Machine M} {events : List Line} → Phases state moves s old new events → (h : Here M) → StandsOn s old h → DoesTurn state moves s h events new
-turn_by_phases p h stands = (phases_from p h stands).turn
+turn_by_phases p h stands = (phases_from p h stands).0
 
 -- after which the machine is ready
 pub ready_after : {M I : Type 0} {state : M → MediumState I} {moves : I → Step → Bool → I → Type 0} {s : Script} {old new : Machine M} {events : List Line} → Phases state moves s old new events → IsReady s new
@@ -107,5 +100,5 @@ less_after p =
     let is = p.ready.script in
     let from = phases_from p p.ready.stood p.ready.stands in
     let before = work_is is p.ready.runs p.ready.quiet p.ready.stands.lanes in
-    let after = work_is is p.fit.own p.quiet from.turn.stands.lanes in
-    omega (arith, before, after, from.less)
+    let after = work_is is p.fit.own p.quiet from.0.stands.lanes in
+    omega (arith, before, after, from.1)

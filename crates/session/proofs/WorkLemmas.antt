@@ -1,8 +1,7 @@
-use Rattle.std.proofs.Common.{◌≡◌, ℕ, zero, suc, ◌+◌, ◌-◌, ◌*◌, ◌/◌, ◌%◌, ◌<◌, ◌≤◌, ⊎_elim, Bool, List, [], ◌∷◌, ◌++◌, Option, Some, None, All, length, map, sum, take, drop, get_or, slice_get, slice_index_or, slice_set, vec_capacity, refl, sym, ap, subst, ◌∙◌, arith}
+use Rattle.std.proofs.Common.{◌≡◌, ℕ, zero, suc, ◌+◌, ◌-◌, ◌*◌, ◌/◌, ◌%◌, ◌<◌, ◌≤◌, ⊎_elim, Bool, List, [], ◌∷◌, ◌++◌, Some, All, length, map, sum, take, slice_get, slice_index_or, slice_set, vec_capacity, refl, sym, ap, subst, ◌∙◌, arith}
 use Rattle.std.proofs.lemmas.Bool.{cases_eq}
-use Rattle.std.proofs.lemmas.List.{length-map, length-set, map-append, get_or-map, get_or-take, get_or-set_same, get_or-set_other, get_or_default, ext_get_or, length-drop}
-use Rattle.std.proofs.lemmas.List.Elements.{All-from_get_or, All-head, All-tail}
-use Rattle.mig_base.proofs.ListLemmas.{none_of_sum}
+use Rattle.std.proofs.lemmas.List.{length-map, length-set, map-append, get_or-map, get_or-set_same, get_or-set_other, get_or_default, ext_get_or, length-drop}
+use Rattle.std.proofs.lemmas.List.Elements.{All-from_get_or}
 use Rattle.nvm_values.specs.declared.op.Op.{Op}
 use Rattle.nvm_values.specs.declared.op.Op.TheVariants.{Flush, Write, Read, Compare, WriteZeroes, Verify}
 use Rattle.nvm_model.specs.declared.command.Command.{Command}
@@ -11,20 +10,17 @@ use Rattle.nvm_model.specs.declared.line.Line.{Line}
 use Rattle.nvm_model.specs.declared.line.Line.TheVariants as line
 use Rattle.nvm_model.specs.declared.piece.Piece.{Piece}
 use Rattle.nvm_model.specs.declared.piece.PieceResult.{PieceResult}
-use Rattle.nvm_model.specs.declared.script.LaneSet.{LaneSet}
 use Rattle.nvm_model.specs.declared.script.Script.{Script}
 use Rattle.nvm_model.specs.declared.trace.Step.{Step}
 use Rattle.nvm_model.specs.Chain.{Chain}
 use Rattle.nvm_model.specs.Medium.{IsAt, MediumState, all_at}
-use Rattle.nvm_model.specs.Memory.{page_at}
 use Rattle.nvm_model.specs.Piece.{after_piece, digest_after, done_blocks, pieces_left}
-use Rattle.nvm_model.specs.Ring.{IsCqPage, IsSqRing}
 use Rattle.nvm_model.specs.Shelf.{digest_bytes}
 use Rattle.nvm_model.specs.Trace.{IsPieceDone, piece_calls}
 use Rattle.nvm_model.specs.Turn.{left_in}
-use Rattle.nvm_model.specs.World.{Lane, lane_of, new_lane, set_of}
+use Rattle.nvm_model.specs.World.{Lane, new_lane, set_of}
 use Rattle.nvm_model.proofs.ChainLemmas.{chain_one}
-use Rattle.nvm_ring.specs.Queues.{HasGuestEnds, HasWindow, IsOrdered, posted_entries, sq_of}
+use Rattle.nvm_ring.specs.Queues.{HasGuestEnds}
 use Rattle.nvm_blocks.specs.Namespace.{IsForNamespace, media_of}
 use Rattle.nvm_blocks.specs.Work.{IsSameButData}
 use Rattle.nvm_cmd.specs.Answer.{job_of}
@@ -33,18 +29,18 @@ use Rattle.guest_ram.specs.Window.{WindowState, data_pages, no_window}
 use Rattle.hall.specs.Plan.{PlanState, pieces_of}
 use Rattle.lanes.specs.Guest.{GuestState}
 use Rattle.controller.specs.Pair.{ControllerState, PairState, lane_pieces, outcomes_of, pair_of, worked}
-use Rattle.turns.specs.Run.{Here, IsPiece, MayBeNext, NoneLeft, PieceCalled, PieceOnLane, among, part_of, piece_line}
+use Rattle.turns.proofs.NextPieceLaws.{lanes_finished}
+use Rattle.turns.specs.Run.{Here, IsPiece, MayBeNext, NoneLeft, PieceCalled, PieceOnLane}
 use Rattle.session.specs.declared.lane_run.LaneRun.{LaneRun}
 use Rattle.session.specs.declared.lane_script.LaneScript.{LaneScript}
 use Rattle.session.specs.LaneParts.{Leads}
 use Rattle.session.specs.Lanes.{ArePlanned, IsLaneOf, IsPlanned, IsRunOf, IsWindowOf, Stands, window_of}
-use Rattle.session.specs.Phases.{AreDone, DoesPieces, Fit, HasPieceLeft, HasPlan, StandsNext, StandsOver}
+use Rattle.session.specs.Phases.{AreDone, DoesPieces, HasPieceLeft, HasPlan, StandsNext, StandsOver}
 use Rattle.session.specs.Place.{AreRunsOf, IsPlaceOf, PlaceState, StandsFor, serial}
 use Rattle.session.specs.Seats.{DoesPieceAt}
-use Rattle.session.specs.Work.{AreLeft, HasResult, HasResultAt, IsPartFor, MayPost, digest_told}
-use Rattle.session.proofs.PieceLemmas.{for_namespace}
+use Rattle.session.specs.Work.{AreLeft, HasResult, HasResultAt, MayPost, digest_told}
 use Rattle.session.proofs.ShelvesLemmas.{same_namespace}
-use Rattle.session.proofs.CommandLemmas.{IsNext, is_next, lane_few, lane_length, left_worked, next_part, worked_length}
+use Rattle.controller.proofs.NextLemmas.{IsNext, is_next, lane_few, lane_length, left_worked, next_fits, order_stays, window_stays, worked_length}
 
 -- A piece that is done: what it does to its lane, and to all lanes over their media.
 
@@ -120,37 +116,6 @@ piece_does {s} {k} {pages} {commands} {os} {piece} next result moved memory lane
       calls_are = refl;
       after = ap (λ (l : List Command). record lane { pages = memory; running = l }) (next.after result.outcome ∙ ap (λ (l : List Command). slice_set l next.place after) (sym running));
     })
-
--- the two ring pages stay
-page_stays : (window new : WindowState) (j : ℕ) → j < 2 → IsSameButData window new → page_at new.pages j ≡ page_at window.pages j
-page_stays window new j low same = sym (get_or-take 2 new.pages j [] low) ∙ ap (λ (l : List (List ℕ)). get_or l j []) same.rings ∙ get_or-take 2 window.pages j [] low
-
--- the window of a lane whose data pages and running commands alone changed
-window_stays : (k : ℕ) (set : LaneSet) (window new : WindowState) (lane : Lane) (running : List Command) → IsSameButData window new → HasWindow k set window.pages lane → HasWindow k set new.pages (record lane { pages = data_pages new; running = running })
-window_stays k set window new lane running same is =
-    let first = page_stays window new 0 (omega arith) same in
-    let second = page_stays window new 1 (omega arith) same in
-    record {
-      size = same.count ∙ is.size;
-      sq = first ∙ is.sq;
-      cq = second ∙ is.cq;
-      memory = refl;
-      entries = subst (λ (page : List ℕ). IsSqRing (sq_of set lane) page (drop lane.fetched lane.submitted)) (sym first) is.entries;
-      completions = subst (λ (page : List ℕ). IsCqPage set.cq page (posted_entries k lane.posted)) (sym second) is.completions;
-    }
-
--- and its queues
-order_stays : (set : LaneSet) (lane : Lane) (pages : List (List ℕ)) (running : List Command) → length running ≡ length lane.running → IsOrdered set lane → IsOrdered set (record lane { pages = pages; running = running })
-order_stays set lane pages running same is = record {
-  submitted = is.submitted;
-  fetched = is.fetched;
-  posted = omega (arith, is.posted, same);
-  reaped = is.reaped;
-  in_flight = is.in_flight;
-  told = is.told;
-  tells = is.tells;
-  untold = is.untold;
-}
 
 -- the lane that a run stands for after its next piece
 abbrev pub lane_after : Script → PairState → LaneRun → PieceResult → WindowState → Lane → Lane
@@ -304,14 +269,6 @@ lefts_are {s} {runs} {plan} {lanes = lanes} {left} d planned are is =
     let count = each_left i d planned is below (omega (arith, own)) in
     omega (arith, own, same, count))
 
--- where nothing is left of any lane, no command has a piece left
-lanes_finished : (shelf : ℕ) (lanes : List Lane) → All (λ (n : ℕ). n ≡ 0) (map (left_in shelf) lanes) → NoneLeft shelf lanes
-lanes_finished shelf [] none = tt
-lanes_finished shelf (lane ∷ lanes) none = (
-  none_of_sum (pieces_left shelf) lane.running (All-head (λ (n : ℕ). n ≡ 0) (left_in shelf lane) (map (left_in shelf) lanes) none),
-  lanes_finished shelf lanes (All-tail (λ (n : ℕ). n ≡ 0) (left_in shelf lane) (map (left_in shelf) lanes) none),
-)
-
 -- so it is where all pieces were done
 pub none_is_left : {M : Type 0} {s : Script} {runs : List LaneRun} {plan : PlanState} {place : PlaceState M} {lanes : List Lane} → HasPlan s runs plan place → AreDone s runs plan → StandsFor s runs place.controller place.windows lanes → NoneLeft s.head.shelf lanes
 none_is_left {s = s} {runs} {plan} {lanes = lanes} has done is =
@@ -348,11 +305,10 @@ piece_fits {s = s} {runs} {plan} {place} {piece} at has left piece_is =
     let d = element_at runs at (omega (arith, left.there, has.fit.own.count)) in
     let next = next_at at d has left piece_is in
     let number : piece.lane ≡ at + 1 = ap (λ (p : Piece). p.lane) next.piece_is in
-    let part = next_part has.fit.head.shelf.0 next in
     let size = (has.fit.at.windows.each piece.lane (omega (arith, number)) (omega (arith, number, left.there))).size in
     let same : (set_of s.head piece.lane).pages ≡ (set_of s.head (at + 1)).pages = ap (λ (k : ℕ). (set_of s.head k).pages) number in
     let pages : (set_of s.head (at + 1)).pages ≡ length (data_pages (window_of place.windows piece.lane)) = omega (arith, size, same, length-drop 2 (window_of place.windows piece.lane).pages) in
-    (number, subst (λ (n : ℕ). IsForNamespace place.namespace n piece) pages (for_namespace part has.fit.at.namespace))
+    (number, subst (λ (n : ℕ). IsForNamespace place.namespace n piece) pages (next_fits place.namespace has.fit.at.namespace.shelf has.fit.at.namespace.blocks has.fit.head.shelf.0 next))
 
 -- the next piece of the lane at a place was done
 pub piece_leads : {M I : Type 0} {state : M → MediumState I} {moves : I → Step → Bool → I → Type 0} {s : Script} {runs new_runs : List LaneRun} {plan : PlanState} {old new : PlaceState M} {piece : Piece} {result : PieceResult} {h : Here M} (at : ℕ) (events : List Line) →
@@ -421,7 +377,7 @@ plan_after {s = s} {plan = plan} {old} {new} {piece} {result} at low does has is
             subst (λ (m : ℕ). IsWindowOf s m (window_of new.windows m)) (sym here) now)
             (λ (other : j ≡ piece.lane → ⊥).
             let same : window_of new.windows j ≡ window_of old.windows j = ap (λ (ws : List WindowState). window_of ws j) does.windows
-                ∙ get_or-set_other old.windows (piece.lane - 1) (j - 1) (window_of new.windows piece.lane) no_window (λ at_same. other (omega (arith, at_same, first, low))) in
+            ∙ get_or-set_other old.windows (piece.lane - 1) (j - 1) (window_of new.windows piece.lane) no_window (λ at_same. other (omega (arith, at_same, first, low))) in
             subst (λ (w : WindowState). IsWindowOf s j w) (sym same) (is.fit.at.windows.each j first last))
             (cases_eq j piece.lane);
       };

@@ -1,18 +1,20 @@
-use Rattle.std.specs.Prelude.{◌≡◌, ◌⊎◌, ℕ, ◌+◌, ◌-◌, ◌<◌, ◌≤◌, Bool, true, false, List, ◌++◌, Vec, length, slice_index_or, vec_capacity, vec_len}
+use Rattle.std.specs.Prelude.{◌≡◌, ℕ, ◌+◌, ◌-◌, ◌≤◌, Bool, true, false, List, [], ◌++◌, Vec, length, slice_index_or, vec_capacity, vec_len}
 use Rattle.std.specs.declared.alloc.Global.{Global}
 use Rattle.nvm_model.specs.declared.line.Line.{Line}
 use Rattle.nvm_model.specs.declared.script.Act.{Act}
 use Rattle.nvm_model.specs.declared.script.LaneSet.{LaneSet}
 use Rattle.nvm_model.specs.declared.script.Script.{Script}
 use Rattle.nvm_model.specs.Event.{MayDo}
-use Rattle.nvm_ring.specs.Queues.{HasEnds}
-use Rattle.nvm_model.specs.Turn.{ActsOn, AreOf, IsIdle, LaneEvents, NoneLegal}
-use Rattle.nvm_model.specs.Turn.Kind.{Reap, Act as ActKind}
+use Rattle.nvm_model.specs.ScriptText.{IsHead}
 use Rattle.nvm_model.specs.World.{Lane, set_of}
+use Rattle.nvm_ring.specs.Queues.{HasEnds}
 use Rattle.guest_ram.specs.Window.{WindowState}
-use Rattle.controller.specs.Pair.{ControllerState, PairState, no_pair}
+use Rattle.controller.specs.declared.controller.Phase.TheVariants.{Running}
+use Rattle.controller.specs.Pair.{ControllerState, PairState, no_pair, pair_of}
 use Rattle.lanes.specs.Guest.{GuestState, lane_after}
 use Rattle.lanes.specs.Guest.{Stands as GuestStands}
+use Rattle.session.specs.declared.lane_run.LaneRun.{LaneRun}
+use Rattle.session.specs.Lanes.{IsRunOf, IsWindowOf}
 
 -- Events.
 
@@ -32,10 +34,34 @@ pub record Leads {X : Type 0} (Part : X → List Line → X → Type 0) (Stood :
 
 -- The parts of one lane's turn.
 
--- a guest with its window and the controller's two ends stand for a lane
-pub record BothStand (set : LaneSet) (guest : GuestState) (pair : PairState) (window : WindowState) (lane : Lane) : Type 0 where
-  pub guest_stands : GuestStands set guest window lane
-  pub ends : HasEnds set pair.sq pair.cq lane
+-- a lane's run, the controller, and the lane's window
+pub record Seat : Type 0 where
+  pub run : LaneRun
+  pub controller : ControllerState
+  pub window : WindowState
+
+abbrev pub seat_of : LaneRun → ControllerState → WindowState → Seat
+seat_of run controller window = record { run = run; controller = controller; window = window }
+
+-- they are those of lane k of a script
+pub record IsSeat (s : Script) (k : ℕ) (x : Seat) : Type 0 where
+  pub run : IsRunOf s k x.run
+  pub window : IsWindowOf s k x.window
+  pub there : k ≤ length x.controller.pairs
+
+-- no command of the lane is under way
+pub record IsFree (s : Script) (k : ℕ) (x : Seat) : Type 0 where
+  pub seat : IsSeat s k x
+  pub commands : (pair_of x.controller k).commands ≡ []
+  pub results : x.run.results.items ≡ []
+
+-- and the script's controller runs
+pub record MayFetch (s : Script) (k : ℕ) (x : Seat) : Type 0 where
+  pub head : IsHead s.head
+  pub high : k ≤ s.head.lanes
+  pub free : IsFree s k x
+  pub phase : x.controller.phase ≡ Running
+  pub burst : x.controller.burst ≡ s.head.burst
 
 -- one controller differs from another in the pair of lane k alone
 pub record IsSameButPair (k : ℕ) (old new : ControllerState) : Type 0 where
@@ -44,49 +70,29 @@ pub record IsSameButPair (k : ℕ) (old new : ControllerState) : Type 0 where
   pub phase : new.phase ≡ old.phase
   pub others : (i : ℕ) → (i ≡ k - 1 → ⊥) → slice_index_or new.pairs i no_pair ≡ slice_index_or old.pairs i no_pair
 
--- completions were reaped; where none is left, all were
-pub record ReapsTo (left : Bool) (s : Script) (k : ℕ) (lane : Lane) (guest : GuestState) (pair : PairState) (window : WindowState) (events new_events : List Line) : Type 0 where
-  pub added : List Line
-  pub stands : BothStand (set_of s.head k) guest pair window (record lane { reaped = lane.reaped + length added })
-  pub events_are : new_events ≡ events ++ added
-  pub are : AreOf Reap k added
-  pub steps : LaneEvents s lane added (record lane { reaped = lane.reaped + length added })
-  pub all : left ≡ false → lane.reaped + length added ≡ length lane.posted
+-- what steps of the guest of lane k leave
+pub record IsGuestStep (s : Script) (k : ℕ) (x y : Seat) : Type 0 where
+  pub seat : IsSeat s k y
+  pub script : y.run.script ≡ x.run.script
+  pub results : y.run.results ≡ x.run.results
+  pub pairs : IsSameButPair k x.controller y.controller
+  pub commands : (pair_of y.controller k).commands ≡ (pair_of x.controller k).commands
+
+-- a guest with its window and the controller's two ends stand for a lane
+pub record BothStand (set : LaneSet) (guest : GuestState) (pair : PairState) (window : WindowState) (lane : Lane) : Type 0 where
+  pub guest_stands : GuestStands set guest window lane
+  pub ends : HasEnds set pair.sq pair.cq lane
+
+abbrev pub StandBoth : Script → ℕ → Seat → Lane → Type 0
+StandBoth s k x lane = BothStand (set_of s.head k) x.run.guest (pair_of x.controller k) x.window lane
+
+-- before its fetches a seat stands for a lane of which no command is under way
+pub record StandsFree (s : Script) (k : ℕ) (x : Seat) (lane : Lane) : Type 0 where
+  pub both : StandBoth s k x lane
+  pub acts : lane.acts ≡ x.run.acts_done
+  pub none : lane.running ≡ []
 
 -- what came of an act: it was done, or it can't be done yet
-abbrev pub DidAct : Bool → LaneSet → ℕ → Act → GuestState → PairState → WindowState → Lane → Type 0
-DidAct true set k act guest pair window lane = MayDo set act lane × BothStand set guest pair window (lane_after k act lane)
-DidAct false set k act guest pair window lane = (MayDo set act lane → ⊥) × BothStand set guest pair window lane
-
--- acts go on behind the last one that was done, or they stop behind an `idle` or where none is legal
-abbrev pub Stops : Bool → Script → ℕ → Lane → Lane → Type 0
-Stops true s k lane new = lane.acts < new.acts → IsIdle s k new.acts → ⊥
-Stops false s k lane new = ((lane.acts < new.acts) × IsIdle s k new.acts) ⊎ NoneLegal s ActKind k new
-
--- acts were done
-pub record ActsTo (on : Bool) (s : Script) (k : ℕ) (lane : Lane) (guest : GuestState) (acts_done : ℕ) (pair : PairState) (window : WindowState) (events new_events : List Line) : Type 0 where
-  pub new : Lane
-  pub added : List Line
-  pub stands : BothStand (set_of s.head k) guest pair window new
-  pub acts : new.acts ≡ acts_done
-  pub events_are : new_events ≡ events ++ added
-  pub are : AreOf ActKind k added
-  pub steps : LaneEvents s lane added new
-  pub forward : new.acts ≡ lane.acts + length added
-  pub none_behind : (n : ℕ) → lane.acts < n → n < new.acts → IsIdle s k n → ⊥
-  pub stops : Stops on s k lane new
-  pub running : new.running ≡ lane.running
-  pub reaped : new.reaped ≡ lane.reaped
-  pub posted : new.posted ≡ lane.posted
-
--- the acts of a turn were done
-pub record ActsOf (s : Script) (k : ℕ) (lane : Lane) (guest : GuestState) (acts_done : ℕ) (pair : PairState) (window : WindowState) (events new_events : List Line) : Type 0 where
-  pub new : Lane
-  pub added : List Line
-  pub stands : BothStand (set_of s.head k) guest pair window new
-  pub acts : new.acts ≡ acts_done
-  pub events_are : new_events ≡ events ++ added
-  pub acting : ActsOn s k lane added new
-  pub running : new.running ≡ lane.running
-  pub reaped : new.reaped ≡ lane.reaped
-  pub posted : new.posted ≡ lane.posted
+abbrev pub DidAct : Bool → Script → ℕ → Act → Lane → Seat → Type 0
+DidAct true s k act lane x = MayDo (set_of s.head k) act lane × StandBoth s k x (lane_after k act lane)
+DidAct false s k act lane x = (MayDo (set_of s.head k) act lane → ⊥) × StandBoth s k x lane

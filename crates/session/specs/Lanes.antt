@@ -80,3 +80,7 @@ pub record Stands (s : Script) (k : ℕ) (run : LaneRun) (pair : PairState) (win
 -- the stream of the order's words stands where n were drawn
 abbrev pub HasWords : Script → ℕ → Order → Type 0
 HasWords s n order = (s.head.mix ≡ 0) ⊎ (order.words ≡ word_state s.head.mix n)
+
+-- the same by the order's own mix
+abbrev pub HasDrawn : ℕ → Order → Type 0
+HasDrawn n order = (order.mix ≡ 0) ⊎ (order.words ≡ word_state order.mix n)

@@ -8,10 +8,11 @@ use Rattle.nvm_model.specs.Medium.{MediumState}
 use Rattle.nvm_model.specs.ScriptText.{IsHead}
 use Rattle.nvm_blocks.specs.Namespace.{media_of}
 use Rattle.hall.specs.Plan.{PlanState, pieces_of}
+use Rattle.controller.specs.Pair.{PairState}
 use Rattle.turns.specs.Run.{Here, IsPiece, PieceCalled, piece_line}
 use Rattle.session.specs.declared.lane_run.LaneRun.{LaneRun}
-use Rattle.session.specs.Lanes.{ArePlanned}
-use Rattle.session.specs.Place.{AreRunsOf, IsPlaceOf, PlaceState, StandsFor, serial}
+use Rattle.session.specs.Lanes.{ArePlanned, IsPlanned}
+use Rattle.session.specs.Place.{AreQuiet, AreRunsOf, IsPlaceOf, PlaceState, StandsFor, serial}
 
 -- The phases of a turn: all lanes' plans, then their pieces, then their posts.
 
@@ -37,15 +38,23 @@ pub record IsSameButPieces (k : ℕ) (old new : PlanState) : Type 0 where
   pub size : new.room ≡ old.room
   pub others : (i : ℕ) → (i ≡ k - 1 → ⊥) → slice_index_or new.lanes i [] ≡ slice_index_or old.lanes i []
 
+-- the pieces of lane k's fetched commands were put into a plan where it had none
+pub record PlansLane (s : Script) (k : ℕ) (old new : PlanState) (pair : PairState) : Type 0 where
+  pub planned : IsPlanned s k new pair
+  pub same : IsSameButPieces k old new
+
 -- a plan has the pieces of all fetched commands
 pub record HasPlan {M : Type 0} (s : Script) (runs : List LaneRun) (plan : PlanState) (place : PlaceState M) : Type 0 where
   pub fit : Fit s runs place
   pub fits : FitPlan s plan
   pub planned : ArePlanned s plan place.controller
 
--- no lane has a piece in a plan
-abbrev pub IsEmptyPlan : Script → PlanState → Type 0
-IsEmptyPlan s plan = (k : ℕ) → 1 ≤ k → k ≤ s.head.lanes → pieces_of plan k ≡ []
+-- before a turn: no command of any lane is under way, and the plan is empty
+pub record MayPlanAll {M : Type 0} (s : Script) (runs : List LaneRun) (plan : PlanState) (place : PlaceState M) : Type 0 where
+  pub fit : Fit s runs place
+  pub quiet : AreQuiet s runs place.controller
+  pub fits : FitPlan s plan
+  pub empty : (k : ℕ) → 1 ≤ k → k ≤ s.head.lanes → pieces_of plan k ≡ []
 
 -- none of its pieces was done
 abbrev pub AreUndone : Script → List LaneRun → Type 0

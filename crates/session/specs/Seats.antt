@@ -1,4 +1,4 @@
-use Rattle.std.specs.Prelude.{◌≡◌, ℕ, ◌-◌, ◌/◌, ◌%◌, ◌≤◌, All, Bool, List, length, slice_index_or, slice_set}
+use Rattle.std.specs.Prelude.{◌≡◌, ℕ, ◌-◌, ◌/◌, ◌%◌, ◌≤◌, All, Bool, List, [], length, slice_index_or, slice_set}
 use Rattle.nvm_model.specs.declared.piece.Piece.{Piece}
 use Rattle.nvm_model.specs.declared.piece.PieceResult.{PieceResult}
 use Rattle.nvm_model.specs.declared.script.Script.{Script}
@@ -30,6 +30,12 @@ pub record HasSeat {M : Type 0} (s : Script) (run : LaneRun) (place : PlaceState
   pub there : (1 ≤ run.script.lane) × (run.script.lane ≤ s.head.lanes)
   pub own : IsRunOf s run.script.lane run
   pub at : IsPlaceOf s place
+
+-- where no command of the lane is under way
+pub record MayPlan {M : Type 0} (s : Script) (run : LaneRun) (place : PlaceState M) : Type 0 where
+  pub seat : HasSeat s run place
+  pub commands : (pair_of place.controller run.script.lane).commands ≡ []
+  pub results : run.results.items ≡ []
 
 -- each shelf has room for the entries of a command's pieces
 abbrev pub HasRooms : {M : Type 0} → NamespaceState M → Type 0

@@ -1,12 +1,9 @@
-use Rattle.std.specs.Prelude.{◌≡◌, ℕ, ◌+◌, ◌-◌, ◌/◌, ◌≤◌, List, [], ◌∷◌, ◌++◌, All, Option, Some, None, length, map, slice_index_or, vec_capacity}
+use Rattle.std.specs.Prelude.{◌≡◌, ℕ, ◌+◌, ◌-◌, ◌≤◌, List, [], ◌∷◌, ◌++◌, All, Option, Some, None, length, map, slice_index_or, vec_capacity}
 use Rattle.nvm_values.specs.declared.op.Op.{Op}
 use Rattle.nvm_values.specs.declared.op.Op.TheVariants.{Flush, Write, Read, Compare, WriteZeroes, Verify}
-use Rattle.nvm_model.specs.declared.piece.Piece.{Piece}
 use Rattle.nvm_model.specs.declared.piece.PieceResult.{PieceResult}
-use Rattle.nvm_model.specs.declared.script.Head.{Head}
 use Rattle.nvm_model.specs.declared.script.Script.{Script}
 use Rattle.nvm_model.specs.World.{set_of}
-use Rattle.nvm_blocks.specs.Work.{HasPages}
 use Rattle.hall.specs.Plan.{PlanState, pieces_of}
 use Rattle.controller.specs.Pair.{IsFetched, PairState, lane_pieces, told_fetch}
 use Rattle.session.specs.declared.lane_run.LaneRun.{LaneRun}
@@ -27,15 +24,6 @@ pub record AreLeft (s : Script) (runs : List LaneRun) (plan : PlanState) (left :
   pub count : length left ≡ s.head.lanes
   pub each : (k : ℕ) (d : LaneRun) → 1 ≤ k → k ≤ s.head.lanes
       → slice_index_or left (k - 1) 0 + length (slice_index_or runs (k - 1) d).results.items ≡ length (pieces_of plan k)
-
--- a part of a command of a namespace, for a window of so many data pages
-pub record IsPartFor (head : Head) (pages : ℕ) (p : Piece) : Type 0 where
-  pub op : p.op ≡ Flush → ⊥
-  pub some : 1 ≤ p.span.count
-  pub few : p.span.count ≤ 64
-  pub within : p.span.first + p.span.count ≤ head.blocks
-  pub one_shelf : p.span.first / head.shelf ≡ (p.span.first + p.span.count - 1) / head.shelf
-  pub has_pages : HasPages p pages
 
 -- a run after one result more
 pub record HasResult (run : LaneRun) (result : PieceResult) (new : LaneRun) : Type 0 where

@@ -44,7 +44,8 @@ impl LaneRun {
 
     /// Whether the guest has done its acts and no command of its is under way.
     pub fn is_complete(&self) -> bool
-        ensures { IsTrue result ↔ ((self.now.acts_done ≡ length self.now.script.acts.items) × (self.now.guest.waiting ≡ 0)) }
+        ensures { IsTrue result
+            ↔ ((self.now.acts_done ≡ length self.now.script.acts.items) × (self.now.guest.waiting ≡ 0)) }
     {
         self.acts_done as usize == self.script.acts.len() && self.guest.is_quiet()
     }

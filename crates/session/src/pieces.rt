@@ -26,14 +26,15 @@ pub(crate) fn do_pieces<M: Medium>(
     events: &mut Vec<Line>,
     place: &mut Place<M>,
 )
-    requires has { HasPlan script.now runs.old.items plan.now place.old }
-    requires none { AreUndone script.now runs.old.items }
+    requires has { HasPlan script.now runs.old.items plan.now place.old × AreUndone script.now runs.old.items }
     requires mix { order.old.mix ≡ script.now.head.mix }
     requires room { vec_len events.old + 4096 * script.now.head.lanes ≤ vec_capacity events.old }
-    ensures works { (h : Here M) → StandsOn script.now (machine runs.old.items order.old place.old) h
-        → Leads (DoesPieces M.state M.moves script.now) (StandsOn script.now (machine runs.new.items order.new place.new)) h events.old.items events.new.items }
-    ensures has { HasPlan script.now runs.new.items plan.now place.new }
-    ensures done { AreDone script.now runs.new.items plan.now }
+    ensures works { (h : Here M)
+        → StandsOn script.now (machine runs.old.items order.old place.old) h
+        → Leads (DoesPieces M.state M.moves script.now)
+        (StandsOn script.now (machine runs.new.items order.new place.new))
+        h events.old.items events.new.items }
+    ensures has { HasPlan script.now runs.new.items plan.now place.new × AreDone script.now runs.new.items plan.now }
     ensures mix { order.new.mix ≡ script.now.head.mix }
     ensures more { HasMore (4096 * script.now.head.lanes) events.old events.new }
 {
@@ -70,11 +71,15 @@ fn do_piece<M: Medium>(
     requires has { HasPlan script.now runs.old.items plan.now place.old }
     requires left { HasPieceLeft script.now at runs.old.items plan.now }
     requires room { vec_len events.old < vec_capacity events.old }
-    ensures works { (h : Here M) → StandsOver script.now runs.old.items place.old h → MayBeNext (serial script.now) h.drawn h.lanes (at + 1)
-        → Leads (DoesPieces M.state M.moves script.now) (StandsNext script.now runs.new.items place.new h.drawn) h events.old.items events.new.items }
+    ensures works { (h : Here M)
+        → StandsOver script.now runs.old.items place.old h
+        → MayBeNext (serial script.now) h.drawn h.lanes (at + 1)
+        → Leads (DoesPieces M.state M.moves script.now) (StandsNext script.now runs.new.items place.new h.drawn)
+        h events.old.items events.new.items }
     ensures one { (done : TheResult) × HasResultAt at done runs.old.items runs.new.items }
     ensures has { HasPlan script.now runs.new.items plan.now place.new }
-    ensures more { (vec_len events.new ≡ vec_len events.old + 1) × (vec_capacity events.new ≡ vec_capacity events.old) }
+    ensures more { (vec_len events.new ≡ vec_len events.old + 1)
+        × (vec_capacity events.new ≡ vec_capacity events.old) }
 {
     let (piece, index) = next_piece(script, runs, at, plan);
     let done = place.piece(&piece, index);
@@ -87,7 +92,9 @@ fn next_piece(script: &Script, runs: &Vec<LaneRun>, at: usize, plan: &Plan) -> (
     requires fits { AreRunsOf script.now runs.now.items × FitPlan script.now plan.now }
     requires few { length (pieces_of plan.now (at + 1)) ≤ 4096 }
     requires left { HasPieceLeft script.now at runs.now.items plan.now }
-    ensures { (d : LaneRun) (none : ThePiece) → result.0 ≡ slice_index_or (pieces_of plan.now (at + 1)) (length (slice_index_or runs.now.items at d).results.items) none }
+    ensures { (d : LaneRun) (none : ThePiece)
+        → result.0 ≡ slice_index_or (pieces_of plan.now (at + 1))
+        (length (slice_index_or runs.now.items at d).results.items) none }
 {
     let run = &runs[at];
     let index = run.results.len();
@@ -97,7 +104,9 @@ fn next_piece(script: &Script, runs: &Vec<LaneRun>, at: usize, plan: &Plan) -> (
 
 /// The line of a piece that was done. A Read's has its digest.
 fn piece_line(part: &Piece, done: &PieceResult) -> Line
-    ensures { result ≡ line.Piece part.now.lane part.now.cid part.now.span.first part.now.span.count done.now.outcome (digest_told part.now.op done.now.digest) }
+    ensures { result
+        ≡ line.Piece part.now.lane part.now.cid part.now.span.first part.now.span.count done.now.outcome
+        (digest_told part.now.op done.now.digest) }
 {
     let digest = match part.op {
         Op::Read => Some(done.digest),
@@ -116,7 +125,9 @@ fn piece_line(part: &Piece, done: &PieceResult) -> Line
 /// Puts a result behind those of the lane at a place, which has room for it.
 fn push_result(runs: &mut Vec<LaneRun>, at: usize, done: PieceResult)
     requires there { at < length runs.old.items }
-    requires room { (d : LaneRun) → vec_len (slice_index_or runs.old.items at d).results < vec_capacity (slice_index_or runs.old.items at d).results }
+    requires room { (d : LaneRun)
+        → vec_len (slice_index_or runs.old.items at d).results
+        < vec_capacity (slice_index_or runs.old.items at d).results }
     ensures { HasResultAt at done runs.old.items runs.new.items }
 {
     runs[at].results.push_reserved(done);

@@ -1,15 +1,14 @@
-ghost use Rattle.std.specs.Prelude.{◌≡◌, ◌+◌, ◌*◌, ◌/◌, ◌≤◌, [], length, vec_capacity, vec_len};
-ghost use Rattle.nvm_model.specs.ScriptText.{IsHead};
+ghost use Rattle.std.specs.Prelude.{◌≡◌, ◌+◌, ◌/◌, ◌≤◌, [], ◌∷◌, length, slice_index_or, vec_capacity, vec_len};
 ghost use Rattle.nvm_model.specs.Turn.{Plans, PostsAll};
 ghost use Rattle.nvm_model.specs.World.{Lane};
-ghost use Rattle.nvm_blocks.specs.Namespace.{IsForNamespace, block_count};
+ghost use Rattle.nvm_blocks.specs.Namespace.{IsForNamespace, entries_of};
 ghost use Rattle.guest_ram.specs.Window.{data_pages};
 ghost use Rattle.hall.specs.Plan.{pieces_of};
 ghost use Rattle.controller.specs.Pair.{pair_of};
 ghost use Rattle.session.specs.LaneParts.{HasMore, Leads};
-ghost use Rattle.session.specs.Lanes.{IsPlanned, IsRunOf, window_of};
-ghost use Rattle.session.specs.Phases.{FitPlan, IsSameButPieces};
-ghost use Rattle.session.specs.Seats.{DoesPieceAt, HasRooms, HasSeat, IsSameButSeat, Sits};
+ghost use Rattle.session.specs.Lanes.{IsRunOf, window_of};
+ghost use Rattle.session.specs.Phases.{FitPlan, PlansLane};
+ghost use Rattle.session.specs.Seats.{DoesPieceAt, HasRooms, HasSeat, IsSameButSeat, MayPlan, Sits};
 ghost use Rattle.session.specs.Work.{MayPost};
 
 mod moving;
@@ -68,31 +67,43 @@ impl<M: Medium> Place<M> {
         plan: &mut Plan,
         events: &mut Vec<Line>,
     )
-        requires seat { HasSeat script.now run.old self.old }
-        requires none { ((pair_of self.old.controller run.old.script.lane).commands ≡ []) × (run.old.results.items ≡ []) }
+        requires may { MayPlan script.now run.old self.old }
         requires plan { FitPlan script.now plan.old × (pieces_of plan.old run.old.script.lane ≡ []) }
         requires room { vec_len events.old + 384 ≤ vec_capacity events.old }
-        ensures leads { (l : Lane) → Sits script.now run.old.script.lane run.old self.old l
-            → Leads (Plans script.now run.old.script.lane) (Sits script.now run.old.script.lane run.new self.new) l events.old.items events.new.items }
+        ensures leads { (l : Lane)
+            → Sits script.now run.old.script.lane run.old self.old l
+            → Leads (Plans script.now run.old.script.lane) (Sits script.now run.old.script.lane run.new self.new)
+            l events.old.items events.new.items }
         ensures run { IsRunOf script.now run.old.script.lane run.new × (run.new.results.items ≡ []) }
         ensures seat { IsSameButSeat run.old.script.lane self.old self.new }
-        ensures planned { IsPlanned script.now run.old.script.lane plan.new (pair_of self.new.controller run.old.script.lane) }
-        ensures pieces { IsSameButPieces run.old.script.lane plan.old plan.new }
+        ensures planned { PlansLane script.now run.old.script.lane plan.old plan.new
+            (pair_of self.new.controller run.old.script.lane) }
         ensures more { HasMore 384 events.old events.new }
     {
         let at = usize::from(run.script.lane.get()) - 1;
         let windows = self.ram.windows();
-        plan_lane(script, run, &mut self.controller, &mut windows[at], plan, events);
+        plan_lane(
+            script,
+            run,
+            &mut self.controller,
+            &mut windows[at],
+            plan,
+            events,
+        );
     }
 
-    /// Does a piece, the one of this number of its lane's. Its media's shelves have room for its entry.
+    /// Does a piece, the one of this number of its lane's. Its entry is the only one of its shelf then.
     pub(crate) fn piece(&mut self, piece: &Piece, index: u32) -> PieceResult
         requires lane { piece.now.lane ≤ length self.old.windows }
-        requires piece { IsForNamespace self.old.namespace (length (data_pages (window_of self.old.windows piece.now.lane))) piece.now }
+        requires piece { IsForNamespace self.old.namespace
+            (length (data_pages (window_of self.old.windows piece.now.lane))) piece.now }
         requires rooms { HasRooms self.old.namespace }
-        ensures { DoesPieceAt M.state M.moves piece.now result self.old self.new }
+        ensures done { DoesPieceAt M.state M.moves piece.now result self.old self.new }
+        ensures entry { slice_index_or (entries_of self.new.namespace)
+            (piece.now.span.first / self.old.namespace.shelf) []
+            ≡ record { lane = piece.now.lane; index = index; ticket = 0; result = result } ∷ [] }
     {
-        self.namespace.clear();
+        self.namespace.clear_at(piece.span.first);
         let at = usize::from(piece.lane.get()) - 1;
         let windows = self.ram.windows();
         self.controller
@@ -102,12 +113,15 @@ impl<M: Medium> Place<M> {
     /// Posts the completions of a lane's fetched commands, whose pieces are all done.
     pub(crate) fn post(&mut self, script: &Script, run: &mut LaneRun, events: &mut Vec<Line>)
         requires seat { HasSeat script.now run.old self.old }
-        requires done { MayPost script.now run.old.script.lane run.old (pair_of self.old.controller run.old.script.lane) }
+        requires done { MayPost script.now run.old.script.lane run.old
+            (pair_of self.old.controller run.old.script.lane) }
         requires room { vec_len events.old + 64 ≤ vec_capacity events.old }
-        ensures leads { (l : Lane) → Sits script.now run.old.script.lane run.old self.old l
-            → Leads (PostsAll script.now run.old.script.lane) (Sits script.now run.old.script.lane run.new self.new) l events.old.items events.new.items }
-        ensures run { IsRunOf script.now run.old.script.lane run.new × (run.new.results.items ≡ []) }
-        ensures none { (pair_of self.new.controller run.old.script.lane).commands ≡ [] }
+        ensures leads { (l : Lane)
+            → Sits script.now run.old.script.lane run.old self.old l
+            → Leads (PostsAll script.now run.old.script.lane) (Sits script.now run.old.script.lane run.new self.new)
+            l events.old.items events.new.items }
+        ensures rests { IsRunOf script.now run.old.script.lane run.new × (run.new.results.items ≡ [])
+            × ((pair_of self.new.controller run.old.script.lane).commands ≡ []) }
         ensures seat { IsSameButSeat run.old.script.lane self.old self.new }
         ensures more { HasMore 64 events.old events.new }
     {

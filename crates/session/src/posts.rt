@@ -1,11 +1,11 @@
 // The posts of a turn: for each lane in order, the completions of its fetched commands.
-ghost use Rattle.std.specs.Prelude.{◌≡◌, ◌+◌, ◌*◌, ◌≤◌, ◌++◌, List, [], length, map, vec_len, vec_capacity};
+ghost use Rattle.std.specs.Prelude.{◌≡◌, ◌+◌, ◌*◌, ◌≤◌, ◌++◌, List, length, map, vec_len, vec_capacity};
 ghost use Rattle.nvm_model.specs.ScriptText.{IsHead};
 ghost use Rattle.nvm_model.specs.Turn.{InLanes, PostsAll};
 ghost use Rattle.nvm_model.specs.World.{Lane};
 ghost use Rattle.controller.specs.Pair.{pair_of, post_line};
-ghost use Rattle.session.specs.LaneParts.{HasMore, IsSameButPair, Leads};
-ghost use Rattle.session.specs.Lanes.{IsRunOf, IsWindowOf, Stands};
+ghost use Rattle.session.specs.LaneParts.{HasMore, IsFree, IsSameButPair, IsSeat, Leads, seat_of};
+ghost use Rattle.session.specs.Lanes.{Stands};
 ghost use Rattle.session.specs.Phases.{AreDone, Fit, HasPlan};
 ghost use Rattle.session.specs.Place.{AreQuiet, StandsFor};
 ghost use Rattle.session.specs.Work.{MayPost};
@@ -27,13 +27,14 @@ pub(crate) fn post_all<M: Medium>(
     events: &mut Vec<Line>,
     place: &mut Place<M>,
 )
-    requires has { HasPlan script.now runs.old.items plan.now place.old }
-    requires done { AreDone script.now runs.old.items plan.now }
+    requires has { HasPlan script.now runs.old.items plan.now place.old × AreDone script.now runs.old.items plan.now }
     requires room { vec_len events.old + 64 * script.now.head.lanes ≤ vec_capacity events.old }
-    ensures leads { (lanes : List Lane) → StandsFor script.now runs.old.items place.old.controller place.old.windows lanes
-        → Leads (InLanes (PostsAll script.now) 1) (StandsFor script.now runs.new.items place.new.controller place.new.windows) lanes events.old.items events.new.items }
-    ensures fit { Fit script.now runs.new.items place.new }
-    ensures quiet { AreQuiet script.now runs.new.items place.new.controller }
+    ensures leads { (lanes : List Lane)
+        → StandsFor script.now runs.old.items place.old.controller place.old.windows lanes
+        → Leads (InLanes (PostsAll script.now) 1)
+        (StandsFor script.now runs.new.items place.new.controller place.new.windows)
+        lanes events.old.items events.new.items }
+    ensures rests { Fit script.now runs.new.items place.new × AreQuiet script.now runs.new.items place.new.controller }
     ensures namespace { place.new.namespace ≡ place.old.namespace }
     ensures more { HasMore (64 * script.now.head.lanes) events.old events.new }
 {
@@ -51,17 +52,15 @@ pub(crate) fn post_lane(
     events: &mut Vec<Line>,
 )
     requires head { IsHead script.now.head }
-    requires run { IsRunOf script.now run.old.script.lane run.old }
-    requires window { IsWindowOf script.now run.old.script.lane window.old }
-    requires there { run.old.script.lane ≤ length controller.old.pairs }
+    requires seat { IsSeat script.now run.old.script.lane (seat_of run.old controller.old window.old) }
     requires may { MayPost script.now run.old.script.lane run.old (pair_of controller.old run.old.script.lane) }
     requires room { vec_len events.old + 64 ≤ vec_capacity events.old }
-
-    ensures leads { (l : Lane) → Stands script.now run.old.script.lane run.old (pair_of controller.old run.old.script.lane) window.old l
-        → Leads (PostsAll script.now run.old.script.lane) (Stands script.now run.old.script.lane run.new (pair_of controller.new run.old.script.lane) window.new) l events.old.items events.new.items }
-    ensures run { IsRunOf script.now run.old.script.lane run.new }
-    ensures none { (run.new.results.items ≡ []) × ((pair_of controller.new run.old.script.lane).commands ≡ []) }
-    ensures window { IsWindowOf script.now run.old.script.lane window.new }
+    ensures leads { (l : Lane)
+        → Stands script.now run.old.script.lane run.old (pair_of controller.old run.old.script.lane) window.old l
+        → Leads (PostsAll script.now run.old.script.lane)
+        (Stands script.now run.old.script.lane run.new (pair_of controller.new run.old.script.lane) window.new)
+        l events.old.items events.new.items }
+    ensures rests { IsFree script.now run.old.script.lane (seat_of run.new controller.new window.new) }
     ensures others { IsSameButPair run.old.script.lane controller.old controller.new }
     ensures more { HasMore 64 events.old events.new }
 {
@@ -75,7 +74,7 @@ pub(crate) fn post_lane(
 fn push_posts(lane: LaneNo, posted: &[(u16, Status)], events: &mut Vec<Line>)
     requires room { vec_len events.old + length posted.now ≤ vec_capacity events.old }
     ensures events { events.new.items ≡ events.old.items ++ map (post_line lane) posted.now }
-    ensures capacity { vec_capacity events.new ≡ vec_capacity events.old }
+    ensures more { HasMore (length posted.now) events.old events.new }
 {
     for told in posted {
         events.push_reserved(Line::Post {

@@ -42,10 +42,12 @@ pub(crate) fn do_turn<M: Medium>(
     requires ready { IsReady script.now (machine runs.old.items order.old place.old) }
     requires room { HasRoom script.now plan.old events.old }
     requires due { AreAllDone script.now runs.old.items → ⊥ }
-    ensures turn { (h : Here M) → StandsOn script.now (machine runs.old.items order.old place.old) h
+    ensures turn { (h : Here M)
+        → StandsOn script.now (machine runs.old.items order.old place.old) h
         → DoesTurn M.state M.moves script.now h events.new.items (machine runs.new.items order.new place.new) }
     ensures ready { IsReady script.now (machine runs.new.items order.new place.new) }
-    ensures less { total_work 1 runs.new.items place.new.controller < total_work 1 runs.old.items place.old.controller }
+    ensures less { total_work 1 runs.new.items place.new.controller
+        < total_work 1 runs.old.items place.old.controller }
     ensures room { HasRoom script.now plan.new events.new }
 {
     events.clear();

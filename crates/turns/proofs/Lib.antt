@@ -21,3 +21,5 @@ pub mod TextLaws
 pub mod OnwardLaws
 pub mod StopLaws
 pub mod RanLaws
+pub mod PartLaws
+pub mod NextPieceLaws

@@ -1,5 +1,5 @@
 use Rattle.std.proofs.Common.{arith}
-use Rattle.session.proofs.OrderLemmas.{none_more, some_more}
+use Rattle.turns.proofs.NextPieceLaws.{none_more, some_more}
 use Rattle.session.proofs.order.count_some.Goals.{then-n-gt0, else-n-gt0}
 use Rattle.session.proofs.order.count_some.Goals as goal
 

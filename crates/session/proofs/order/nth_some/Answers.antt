@@ -1,6 +1,6 @@
 use Rattle.std.proofs.Common.{◌≡◌, ◌+◌, ℕ, length, take, slice_index_or, ap, ◌∙◌, arith}
 use Rattle.nvm_model.specs.Turn.{with_some}
-use Rattle.session.proofs.OrderLemmas.{none_more, some_at, some_more}
+use Rattle.turns.proofs.NextPieceLaws.{none_more, some_at, some_more}
 use Rattle.session.proofs.order.nth_some.Goals.{then-n-gt0+else-others-eq0, else-n-gt0}
 use Rattle.session.proofs.order.nth_some.Goals as goal
 

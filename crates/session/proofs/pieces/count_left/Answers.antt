@@ -1,4 +1,4 @@
-use Rattle.std.proofs.Common.{◌≡◌, ◌<◌, List, get_or, length, ap, ◌∙◌, arith}
+use Rattle.std.proofs.Common.{◌<◌, List, get_or, length, ap, ◌∙◌, arith}
 use Rattle.session.specs.declared.lane_run.LaneRun.{LaneRun}
 use Rattle.session.proofs.AllLanesLemmas.{run_at}
 use Rattle.session.proofs.pieces.count_left.Goals as goal

@@ -1,4 +1,4 @@
-use Rattle.std.proofs.Common.{◌≡◌, List, ◌+◌, ◌++◌, [], ◌∷◌, get_or, subst, sym, ap, ◌∙◌, arith}
+use Rattle.std.proofs.Common.{List, ◌+◌, ◌++◌, [], ◌∷◌, get_or, subst, sym, ap, ◌∙◌, arith}
 use Rattle.nvm_model.specs.declared.line.Line.{Line}
 use Rattle.session.specs.LaneParts.{Leads}
 use Rattle.session.specs.Phases.{DoesPieces, StandsNext}
@@ -28,10 +28,10 @@ returns-clause-works g c = λ h over may.
     let state = g.M.Medium.state in
     let moves = g.M.Medium.moves in
     subst (λ (es : List Line). Leads (DoesPieces state moves c.args.script.now) (StandsNext c.args.script.now c.push_result.new.runs.items c.piece-done.new.self h.drawn) h events es)
-    (sym (c.push_reserved.ensures.items ∙ ap (λ (e : Line). events ++ e ∷ []) c.piece_line.ensures))
-    (piece_leads c.args.at events c.requires.has c.requires.left c.next_piece-piece.ensures c.piece-done.ensures c.push_result.ensures over may)
+    (sym (◌∙◌ {A = List Line} c.push_reserved.ensures.items (ap {B = List Line} (λ (e : Line). events ++ e ∷ []) c.piece_line.ensures)))
+    (piece_leads c.args.at events c.requires.has c.requires.left c.next_piece-piece.ensures c.piece-done.ensures.done c.push_result.ensures over may)
 
 pub returns-clause-has : goal.returns-clause-has
 returns-clause-has g c =
     let fits = piece_fits c.args.at c.requires.has c.requires.left c.next_piece-piece.ensures in
-    plan_after c.args.at (omega (arith, fits.0)) c.piece-done.ensures c.push_result.ensures c.requires.has
+    plan_after c.args.at (omega (arith, fits.0)) c.piece-done.ensures.done c.push_result.ensures c.requires.has

@@ -1,4 +1,4 @@
-use Rattle.std.proofs.Common.{◌≡◌, ◌+◌, ◌<◌, ℕ, List, map, refl, sym, ap, subst, ◌∙◌, arith}
+use Rattle.std.proofs.Common.{◌≡◌, ◌+◌, ◌<◌, ℕ, List, map, refl, sym, ap, ◌∙◌, arith}
 use Rattle.nvm_model.specs.Turn.{left_in, next_lane}
 use Rattle.session.specs.Lanes.{HasWords}
 use Rattle.session.proofs.OrderLemmas.{all_done, has_words, left_at, left_few, left_less, sum_less, sum_none, words_of, works_more, works_none, works_to}
@@ -8,7 +8,7 @@ use Rattle.session.proofs.pieces.do_pieces.Goals as goal
 pub pieces-init : goal.pieces-init
 pieces-init g c = record {
   works = λ h stands. works_none _ h c.args.events.now.items stands;
-  has = c.requires.has;
+  has = c.requires.has.0;
   left = c.count_left.ensures;
   mix = c.requires.mix;
   count = refl;
@@ -26,7 +26,7 @@ pub do_piece-requires-clause-room : goal.do_piece-requires-clause-room
 do_piece-requires-clause-room g c =
     let now = c.pieces.invariant in
     let there = c.in-Some.ensures.there in
-    omega (arith, c.requires.room, now.count, now.capacity, left_few c.requires.has c.count_left.ensures, sum_less c.pieces.left c.in-Some.at there.0 there.1)
+    omega (arith, c.requires.room, now.count, now.capacity, left_few c.requires.has.0 c.count_left.ensures, sum_less c.pieces.left c.in-Some.at there.0 there.1)
 
 pub pieces-preserved : goal.pieces-preserved
 pieces-preserved g c =
@@ -46,8 +46,8 @@ pieces-preserved g c =
           let d = element_at c.pieces.runs.items at (omega (arith, low, now.has.fit.own.count)) in
           let lefts : map (left_in s.head.shelf) x.new.lanes ≡ left = lefts_are d now.has.planned now.left x.stands.lanes in
           let next : at + 1 ≡ next_lane s.head.mix m (map (left_in s.head.shelf) x.new.lanes) =
-          c.in-Some.ensures.next m had ∙ ap (λ (k : ℕ). next_lane k m left) now.mix ∙ ap (λ (l : List ℕ). next_lane s.head.mix m l) (sym lefts) in
-          let drawn : HasWords s (m + 1) c.pick.new.self = has_words s (m + 1) c.pick.new.self (c.in-Some.ensures.mix ∙ now.mix) (c.in-Some.ensures.words m had) in
+          (c.in-Some.ensures.next m had).0 ∙ ap (λ (k : ℕ). next_lane k m left) now.mix ∙ ap (λ (l : List ℕ). next_lane s.head.mix m l) (sym lefts) in
+          let drawn : HasWords s (m + 1) c.pick.new.self = has_words s (m + 1) c.pick.new.self (c.in-Some.ensures.mix ∙ now.mix) (c.in-Some.ensures.next m had).1 in
           works_more (at + 1) x next drawn c.do_piece.ensures.works;
       has = c.do_piece.ensures.has;
       left = left_less at one.0 low there.1 one.1 now.left;
@@ -57,14 +57,14 @@ pieces-preserved g c =
     }
 
 pub returns-clause-works : goal.returns-clause-works
-returns-clause-works g c = λ h stands. works_to c.in_default.ensures.kept (c.pieces.invariant.works h stands)
+returns-clause-works g c = λ h stands. works_to c.in_default.ensures.none.1 (c.pieces.invariant.works h stands)
 
-pub returns-clause-done : goal.returns-clause-done
-returns-clause-done g c = all_done c.pieces.invariant.left c.in_default.ensures.none
+pub returns-clause-has : goal.returns-clause-has
+returns-clause-has g c = (c.pieces.invariant.has, all_done c.pieces.invariant.left c.in_default.ensures.none.0)
 
 pub returns-clause-more : goal.returns-clause-more
 returns-clause-more g c =
     let now = c.pieces.invariant in
-    let few = left_few c.requires.has c.count_left.ensures in
-    let none = sum_none c.pieces.left c.in_default.ensures.none in
+    let few = left_few c.requires.has.0 c.count_left.ensures in
+    let none = sum_none c.pieces.left c.in_default.ensures.none.0 in
     record { fewer = omega (arith, now.count, none); few = omega (arith, now.count, none, few); capacity = now.capacity }

@@ -1,4 +1,4 @@
-use Rattle.std.proofs.Common.{◌≡◌, ◌<◌, ◌+◌, ℕ, length, ap, sym, subst, arith}
+use Rattle.std.proofs.Common.{◌<◌, ◌+◌, ℕ, length, ap, sym, subst, arith}
 use Rattle.nvm_model.specs.declared.piece.Piece.{Piece}
 use Rattle.std.proofs.Common.{List}
 use Rattle.hall.specs.Plan.{pieces_of}

@@ -1,27 +1,41 @@
-use Rattle.std.proofs.Common.{◌≡◌, ◌+◌, ◌∙◌, not, length, ap, sym, ℕ, List, subst, arith}
+use Rattle.std.proofs.Common.{◌+◌, ◌∙◌, not, length, ap, sym, ℕ, List, subst, arith}
+use Rattle.std.specs.List.{slice_get}
 use Rattle.nvm_model.specs.declared.line.Line.{Line}
-use Rattle.nvm_model.specs.World.{acts_of, set_of}
-use Rattle.controller.specs.Pair.{pair_of}
-use Rattle.session.specs.LaneParts.{ActsTo}
-use Rattle.session.proofs.LanePartLemmas.{act_done, act_refused, acts_all, next_due, run_set}
+use Rattle.nvm_model.specs.World.{acts_of}
+use Rattle.turns.specs.Parts.{ActsSome}
+use Rattle.turns.proofs.PartLaws.{act_refused, acts_all}
+use Rattle.session.specs.LaneParts.{Leads, StandsFree, seat_of}
+use Rattle.session.proofs.LanePartLemmas.{act_did, act_fits, leads_none, next_due, step_none}
 use Rattle.session.proofs.plan.do_next_act.Goals as goal
 
 pub returns-then-place-len-clause-acts : goal.returns-then-place-len-clause-acts
-returns-then-place-len-clause-acts c = λ l stands acts.
-    let count = ap length c.requires.run.script.acts_are in
-    let all : length c.args.run.now.script.acts.items ≡ length (acts_of c.args.lane c.args.script.now.acts) = count ∙ ap (λ (n : ℕ). length (acts_of n c.args.script.now.acts)) c.requires.run.lane in
-    acts_all c.args.events.now.items stands acts (omega (arith, all, c.if-place-len.true, c.len.ensures))
+returns-then-place-len-clause-acts c = λ l free.
+    let own = c.requires.seat.run in
+    let all = ap length own.script.acts_are ∙ ap (λ (n : ℕ). length (acts_of n c.args.script.now.acts)) own.lane in
+    leads_none l c.args.events.now.items free (acts_all l (omega (arith, all, free.acts, c.if-place-len.true, c.len.ensures)))
+
+pub returns-then-place-len-clause-step : goal.returns-then-place-len-clause-step
+returns-then-place-len-clause-step c = step_none c.requires.seat
+
+pub do_act-requires-clause-act : goal.do_act-requires-clause-act
+do_act-requires-clause-act c = act_fits c.index.result.now c.requires.seat.run (omega arith) c.index.ensures
 
 pub returns-then-not-do_act-clause-acts : goal.returns-then-not-do_act-clause-acts
-returns-then-not-do_act-clause-acts c = λ l stands acts.
-    let due = next_due c.args.script.now c.args.lane c.args.run.now c.index.result.now c.requires.run (omega arith) c.index.ensures in
-    let did = c.if-not-do_act.ensures.does (set_of c.args.script.now.head c.args.lane) l (run_set c.requires.run) stands in
-    act_refused c.index.result.now c.args.events.now.items due acts did.0 did.1
+returns-then-not-do_act-clause-acts c = λ l free.
+    let s = c.args.script.now in
+    let k = c.args.lane in
+    let act = c.index.result.now in
+    let due = next_due s k c.args.run.now act c.requires.seat.run (omega arith) c.index.ensures in
+    let did = c.if-not-do_act.ensures.does l free.both in
+    leads_none l c.args.events.now.items (record { both = did.1; acts = free.acts ∙ sym c.do_act.ensures.acts; none = free.none }) (act_refused l act (ap (slice_get (acts_of k s.acts)) free.acts ∙ due) did.0)
 
 pub returns-clause-acts : goal.returns-clause-acts
-returns-clause-acts c = λ l stands acts.
-    let due = next_due c.args.script.now c.args.lane c.args.run.now c.index.result.now c.requires.run (omega arith) c.index.ensures in
-    let did = c.if-not-do_act.ensures.does (set_of c.args.script.now.head c.args.lane) l (run_set c.requires.run) stands in
-    subst (λ (es : List Line). ActsTo (not c.is_idle.result) c.args.script.now c.args.lane l c.do_act.new.guest (c.args.run.now.acts_done + 1) (pair_of c.do_act.new.controller c.args.lane) c.do_act.new.window c.args.events.now.items es)
+returns-clause-acts c = λ l free.
+    let s = c.args.script.now in
+    let k = c.args.lane in
+    let act = c.index.result.now in
+    let run = c.do_act.new.run in
+    let due = next_due s k c.args.run.now act c.requires.seat.run (omega arith) c.index.ensures in
+    subst (λ (es : List Line). Leads (ActsSome (not c.is_idle.result) s k) (StandsFree s k (seat_of (record run { acts_done = run.acts_done + 1 }) c.do_act.new.controller c.do_act.new.window)) l c.args.events.now.items es)
     (sym c.push_reserved.ensures.items)
-    (act_done c.is_idle.result c.index.result.now c.args.events.now.items due acts did.0 did.1 c.is_idle.ensures.yes c.is_idle.ensures.not)
+    (act_did c.is_idle.result act c.args.events.now.items (ap (slice_get (acts_of k s.acts)) free.acts ∙ due) (free.acts ∙ sym c.do_act.ensures.acts) free.none (c.if-not-do_act.ensures.does l free.both) c.is_idle.ensures.yes c.is_idle.ensures.not)

@@ -7,7 +7,7 @@ use Rattle.session.specs.LaneParts.{HasMore, Leads}
 use Rattle.session.specs.Lanes.{IsPlanned}
 use Rattle.session.specs.Phases.{AreUndone, Fit, FitPlan}
 use Rattle.session.specs.Place.{StandsFor}
-use Rattle.session.proofs.AllLanesLemmas.{SoFar}
+use Rattle.turns.specs.Parts.{SoFar}
 use Rattle.session.proofs.plan.plan_all.Given as goal
 
 abbrev pub invariant-loop-at : goal.invariant-loop-at

@@ -1,65 +1,82 @@
-use Rattle.std.proofs.Common.{Global, Vec, ◌≡◌, ◌∙◌, List, [], ℕ, ◌++◌, ◌+◌, ◌-◌, All, length, map, set, ap, sym, refl, subst, length-drop, arith}
+use Rattle.std.proofs.Common.{◌≡◌, ◌∙◌, List, [], ℕ, ◌++◌, All, length, map, ap, sym, refl, subst, length-drop, arith}
+use Rattle.std.proofs.lemmas.List.{length-map}
 use Rattle.nvm_values.specs.Status.{StatusPair}
 use Rattle.nvm_model.specs.declared.command.Command.{Command}
 use Rattle.nvm_model.specs.declared.line.Line.{Line}
-use Rattle.nvm_model.specs.declared.piece.Piece.{Piece}
-use Rattle.nvm_model.specs.declared.piece.PieceResult.{PieceResult}
 use Rattle.nvm_model.specs.Turn.{Plans}
 use Rattle.nvm_model.specs.World.{set_of}
 use Rattle.guest_ram.specs.Window.{data_pages}
-use Rattle.controller.specs.Pair.{IsFetched, fetch_line, lane_pieces, pair_of}
+use Rattle.controller.specs.Pair.{IsFetched, fetch_line, lane_pieces, pair_of, told_fetch}
 use Rattle.controller.proofs.StepLemmas.{all_fetched}
-use Rattle.session.specs.LaneParts.{Leads}
+use Rattle.session.specs.LaneParts.{IsGuestStep, Leads, seat_of}
 use Rattle.session.specs.Lanes.{Stands}
-use Rattle.session.proofs.LanePartLemmas.{both_control, none_running, pair_more, pair_stepped, plans_lane, run_set, stands_both}
+use Rattle.session.proofs.LanePartLemmas.{both_control, pair_more, pair_stepped, plans_lane, run_set, stands_free, step_more, with_here, with_same}
 use Rattle.session.proofs.plan.plan_lane.Goals as goal
 
+-- what the guest's steps left
+steps : (c : goal.After-push_fetches) → IsGuestStep c.args.script.now c.args.run.now.script.lane (seat_of c.args.run.now c.args.controller.now c.args.window.now) (seat_of c.do_acts.new.run c.do_acts.new.controller c.do_acts.new.window)
+steps c = step_more c.reap_all.ensures.step c.do_acts.ensures.step
+
 -- no command was under way before the fetches
-between : (c : goal.After-push_fetches) → (pair_of c.do_acts.new.controller c.args.run.now.script.lane).commands ≡ []
-between c = c.do_acts.ensures.commands ∙ c.reap_all.ensures.commands ∙ c.requires.between.0
+none : (c : goal.After-push_fetches) → (pair_of c.do_acts.new.controller c.args.run.now.script.lane).commands ≡ []
+none c = (steps c).commands ∙ c.requires.may.free.commands
 
 -- so those that were fetched are all
 all : (c : goal.After-push_fetches) → (pair_of c.fetch_turn.new.self c.args.run.now.script.lane).commands ≡ c.fetch_turn.ensures.step.step.commands
-all c = all_fetched c.fetch_turn.ensures.step.step (between c)
+all c = all_fetched c.fetch_turn.ensures.step.step (none c)
 
 pub returns-clause-leads : goal.returns-clause-leads
 returns-clause-leads c = λ l stands.
     let s = c.args.script.now in
     let k = c.args.run.now.script.lane in
-    let set = run_set c.requires.run in
-    let number = c.do_acts.ensures.run.guest in
-    let reaps = c.reap_all.ensures.reaps s l set (stands_both stands) in
-    let acts = c.do_acts.ensures.acts (record l { reaped = l.reaped + length reaps.added }) reaps.stands stands.acts in
-    let fetches = c.fetch_turn.ensures.fetches.step s acts.new (record { blocks_is = refl; shelf_is = refl; burst_is = sym (c.do_acts.ensures.others.burst ∙ c.reap_all.ensures.others.burst ∙ c.requires.running.1) }) set (both_control number acts.stands)
-    (acts.running ∙ none_running stands c.requires.between.0) (between c) in
+    let reaps = c.reap_all.ensures.reaps l (stands_free stands c.requires.may.free.commands) in
+    let acts = c.do_acts.ensures.acts reaps.new reaps.stands in
+    let number = (steps c).seat.run.guest in
+    let fetches = c.fetch_turn.ensures.fetches.step s acts.new (record { blocks_is = refl; shelf_is = refl; burst_is = sym ((steps c).pairs.burst ∙ c.requires.may.burst) }) (run_set c.requires.may.free.seat.run) (both_control number acts.stands.both) acts.stands.none (none c) in
     let told = c.push_fetches.ensures.events ∙ ap (λ (ts : List (ℕ × StatusPair × ℕ)). c.do_acts.new.events.items ++ map (fetch_line k) ts) c.fetched.ensures in
     subst (λ (es : List Line). Leads (Plans s k) (Stands s k c.do_acts.new.run (pair_of c.fetch_turn.new.self k) c.do_acts.new.window) l c.args.events.now.items es) (sym told)
-    (plans_lane reaps acts fetches number (ap (λ (v : Vec PieceResult Global). v.items) c.do_acts.ensures.kept.1 ∙ c.requires.between.1))
+    (plans_lane reaps acts fetches number (ap (λ v. v.items) (steps c).results ∙ c.requires.may.free.results))
+
+pub returns-clause-seat : goal.returns-clause-seat
+returns-clause-seat c =
+    let is = (steps c).seat in
+    let stepped = pair_stepped c.fetch_turn.ensures.step in
+    (record { run = is.run; window = is.window; there = omega (arith, is.there, stepped.count) }, ap (λ v. v.items) (steps c).results ∙ c.requires.may.free.results)
 
 pub returns-clause-others : goal.returns-clause-others
-returns-clause-others c = pair_more c.reap_all.ensures.others (pair_more c.do_acts.ensures.others (pair_stepped c.fetch_turn.ensures.step))
+returns-clause-others c = pair_more (steps c).pairs (pair_stepped c.fetch_turn.ensures.step)
 
-pub returns-clause-told : goal.returns-clause-told
-returns-clause-told c = c.fetch_turn.ensures.step.step.told (between c)
-
-pub returns-clause-plan : goal.returns-clause-plan
-returns-clause-plan c =
-    let k = c.args.run.now.script.lane in
-    let shelf = c.args.script.now.head.shelf in
-    let was = c.args.plan.now in
-    c.fetch_turn.ensures.step.step.planned
-    ∙ ap (λ (ps : List Piece). record was { lanes = set was.lanes (k - 1) (ps ++ lane_pieces k shelf c.fetch_turn.ensures.step.step.commands) }) c.requires.empty
-    ∙ ap (λ (cs : List Command). record was { lanes = set was.lanes (k - 1) (lane_pieces k shelf cs) }) (sym (all c))
-
-pub returns-clause-checked : goal.returns-clause-checked
-returns-clause-checked c =
+pub returns-clause-planned : goal.returns-clause-planned
+returns-clause-planned c =
     let s = c.args.script.now in
     let k = c.args.run.now.script.lane in
     let window = c.do_acts.new.window in
-    let pages : length (data_pages window) ≡ (set_of s.head k).pages = omega (arith, length-drop 2 window.pages, c.do_acts.ensures.window.size) in
-    subst (λ (n : ℕ). All (IsFetched s.head.blocks n) (pair_of c.fetch_turn.new.self k).commands) pages
-    (subst (λ (cs : List Command). All (IsFetched s.head.blocks (length (data_pages window))) cs) (sym (all c)) c.fetch_turn.ensures.step.step.fits)
+    let step = c.fetch_turn.ensures.step.step in
+    let fetched : List Command = step.commands in
+    let pages : length (data_pages window) ≡ (set_of s.head k).pages = omega (arith, length-drop 2 window.pages, (steps c).seat.window.size) in
+    record {
+      planned = record {
+        pieces = with_here k (lane_pieces k s.head.shelf fetched) c.args.plan.now step.planned c.requires.plan.1 (omega (arith, c.requires.plan.0.count, c.requires.may.high, c.requires.may.free.seat.run.lane, c.requires.may.free.seat.run.script.lane.0))
+            ∙ ap (λ (cs : List Command). lane_pieces k s.head.shelf cs) (sym (all c));
+        told = step.told (none c);
+        checked = subst (λ (n : ℕ). All (IsFetched s.head.blocks n) (pair_of c.fetch_turn.new.self k).commands) pages
+            (subst (λ (cs : List Command). All (IsFetched s.head.blocks (length (data_pages window))) cs) (sym (all c)) step.fits);
+        few = omega (arith, step.few, (steps c).pairs.burst, c.requires.may.burst);
+      };
+      same = with_same k _ c.args.plan.now step.planned;
+    }
 
-pub returns-clause-few : goal.returns-clause-few
-returns-clause-few c =
-    omega (arith, c.fetch_turn.ensures.step.step.few, c.do_acts.ensures.others.burst, c.reap_all.ensures.others.burst, c.requires.running.1)
+pub returns-clause-more : goal.returns-clause-more
+returns-clause-more c =
+    let step = c.fetch_turn.ensures.step.step in
+    let told = ap length c.fetched.ensures ∙ ap length (step.told (none c)) ∙ length-map (pair_of c.fetch_turn.new.self c.args.run.now.script.lane).commands (told_fetch c.args.script.now.head.shelf) in
+    let reaps = c.reap_all.ensures.more in
+    let acts = c.do_acts.ensures.more in
+    let fetches = c.push_fetches.ensures.more in
+    let few = step.few in
+    let burst = (steps c).pairs.burst in
+    record {
+      fewer = omega (arith, reaps.fewer, acts.fewer, fetches.fewer);
+      few = omega (arith, reaps.few, acts.few, fetches.few, told, few, burst, c.requires.may.burst, c.requires.may.head.burst.1);
+      capacity = fetches.capacity ∙ acts.capacity ∙ reaps.capacity;
+    }

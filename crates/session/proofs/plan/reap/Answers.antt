@@ -1,26 +1,30 @@
-use Rattle.std.proofs.Common.{List, ◌++◌, ◌∷◌, [], sym, ap, subst, ◌∙◌, true}
+use Rattle.std.proofs.Common.{List, ◌++◌, ◌∷◌, [], sym, ap, subst, refl, ◌∙◌, true}
 use Rattle.nvm_model.specs.declared.line.Line.{Line}
 use Rattle.nvm_model.specs.World.{set_of}
-use Rattle.controller.specs.Pair.{pair_of}
-use Rattle.session.specs.LaneParts.{ReapsTo}
-use Rattle.session.proofs.LanePartLemmas.{pair_stepped, reap_none, reap_some, rung_commands}
+use Rattle.lanes.specs.Guest.{GuestState}
+use Rattle.turns.specs.Parts.{ReapsSome}
+use Rattle.session.specs.LaneParts.{Leads, StandsFree, seat_of}
+use Rattle.session.proofs.LanePartLemmas.{guest_step, pair_same, pair_stepped, reap_none, reap_some, run_set, rung_commands}
 use Rattle.session.proofs.plan.reap.Goals as goal
 
 pub returns-in-Some-clause-reaps : goal.returns-in-Some-clause-reaps
-returns-in-Some-clause-reaps c = λ s l set stands.
+returns-in-Some-clause-reaps c = λ l free.
+    let s = c.args.script.now in
     let k = c.args.lane in
     let events = c.args.events.now.items in
+    let run = c.args.run.now in
     let pushed = c.push_reserved.ensures.items ∙ ap (λ (e : Line). events ++ e ∷ []) c.reap_line.ensures in
-    subst (λ (es : List Line). ReapsTo true s k l c.reap.new.self (pair_of c.ring_cq-rung.new.self k) c.args.window.now events es) (sym pushed)
-    (reap_some c.args.controller.now c.ring_cq-rung.new.self c.in-Some.cqe c.cq_head.result c.ring_cq-rung.result events c.requires.lane.0 c.cq_head.ensures stands
-    (c.in-Some.ensures.reaps (set_of s.head k) l set stands.guest_stands) c.ring_cq-rung.ensures.step c.ring_cq-rung.ensures.rung.step.takes)
+    subst (λ (es : List Line). Leads (ReapsSome true s k) (StandsFree s k (seat_of (record run { guest = c.reap.new.self }) c.ring_cq-rung.new.self c.args.window.now)) l events es) (sym pushed)
+    (reap_some c.args.controller.now c.ring_cq-rung.new.self c.in-Some.cqe c.cq_head.result c.ring_cq-rung.result events c.requires.seat.run.guest c.cq_head.ensures free
+    (c.in-Some.ensures.reaps (set_of s.head k) l (run_set c.requires.seat.run) free.both.guest_stands) c.ring_cq-rung.ensures.step c.ring_cq-rung.ensures.rung.step.takes)
+
+pub returns-in-Some-clause-step : goal.returns-in-Some-clause-step
+returns-in-Some-clause-step c =
+    guest_step c.reap.new.self c.requires.seat (ap (λ (g : GuestState). g.lane) c.in-Some.ensures.takes.2) refl refl (pair_stepped c.ring_cq-rung.ensures.step) (rung_commands c.ring_cq-rung.result c.ring_cq-rung.ensures.step.step)
 
 pub returns-in-None-clause-reaps : goal.returns-in-None-clause-reaps
-returns-in-None-clause-reaps c = λ s l set stands.
-    reap_none c.args.events.now.items stands (c.in-None.ensures.reaps (set_of s.head c.args.lane) l set stands.guest_stands)
+returns-in-None-clause-reaps c = λ l free.
+    reap_none c.args.events.now.items free (c.in-None.ensures.reaps (set_of c.args.script.now.head c.args.lane) l (run_set c.requires.seat.run) free.both.guest_stands)
 
-pub returns-in-Some-clause-others : goal.returns-in-Some-clause-others
-returns-in-Some-clause-others c = pair_stepped c.ring_cq-rung.ensures.step
-
-pub returns-in-Some-clause-commands : goal.returns-in-Some-clause-commands
-returns-in-Some-clause-commands c = rung_commands c.ring_cq-rung.result c.ring_cq-rung.ensures.step.step
+pub returns-in-None-clause-step : goal.returns-in-None-clause-step
+returns-in-None-clause-step c = guest_step c.reap.new.self c.requires.seat (ap (λ (g : GuestState). g.lane) c.in-None.ensures.takes.1) refl refl (pair_same c.args.controller.now) refl

@@ -1,41 +1,31 @@
-use Rattle.std.proofs.Common.{◌∙◌, arith, rules, sym}
+use Rattle.std.proofs.Common.{◌∙◌, arith, refl, sym}
 use Rattle.std.proofs.lemmas.Bool.{false≢true}
-use Rattle.session.proofs.LanePartLemmas.{pair_more, pair_same, reaps_end, reaps_more, reaps_stay}
+use Rattle.turns.proofs.PartLaws.{reaps_more, reaps_none}
+use Rattle.session.proofs.LanePartLemmas.{leads_more, leads_none, reaps_end, run_set, step_more, step_none}
 use Rattle.session.proofs.plan.reap_all.Goals as goal
 
 pub loop-turn-init : goal.loop-turn-init
 loop-turn-init c = record {
-  reaps = λ s l set stands. reaps_stay c.args.events.now.items stands (λ never. absurd (false≢true (sym never)));
-  guest = c.requires.lane.0;
-  others = pair_same c.args.controller.now;
-  commands = search rules;
+  reaps = λ l free. leads_none l c.args.events.now.items free (reaps_none l (λ never. absurd (false≢true (sym never))));
+  step = step_none c.requires.seat;
   count = omega arith;
-  capacity = search rules;
+  capacity = refl;
 }
 
-pub reap-requires-clause-there : goal.reap-requires-clause-there
-reap-requires-clause-there c = (c.requires.there.0, omega (arith, c.requires.there.1, c.loop-turn.invariant.others.count))
-
 pub returns-then-not-reap-clause-reaps : goal.returns-then-not-reap-clause-reaps
-returns-then-not-reap-clause-reaps c = λ s l set stands.
-    let first = c.loop-turn.invariant.reaps s l set stands in
-    reaps_more first (c.if-not-reap.ensures.reaps s _ set first.stands)
+returns-then-not-reap-clause-reaps c = λ l free.
+    leads_more (λ y z first second x last. let all = reaps_more x last in record { are = all.are; steps = all.steps; all = all.all refl }) (c.loop-turn.invariant.reaps l free) c.if-not-reap.ensures.reaps
 
-pub returns-then-not-reap-clause-others : goal.returns-then-not-reap-clause-others
-returns-then-not-reap-clause-others c = pair_more c.loop-turn.invariant.others c.reap.ensures.others
+pub returns-then-not-reap-clause-step : goal.returns-then-not-reap-clause-step
+returns-then-not-reap-clause-step c = step_more c.loop-turn.invariant.step c.reap.ensures.step
 
 pub loop-turn-preserved : goal.loop-turn-preserved
 loop-turn-preserved c = record {
-  reaps = λ s l set stands.
-      let first = c.loop-turn.invariant.reaps s l set stands in
-      reaps_more first (c.if-not-reap.ensures.reaps s _ set first.stands);
-  guest = c.reap.ensures.lane;
-  others = pair_more c.loop-turn.invariant.others c.reap.ensures.others;
-  commands = c.reap.ensures.commands ∙ c.loop-turn.invariant.commands;
-  count = omega arith;
-  capacity = search rules;
+  reaps = λ l free. leads_more (λ y z first second x last. reaps_more x last) (c.loop-turn.invariant.reaps l free) c.if-not-reap.ensures.reaps;
+  step = step_more c.loop-turn.invariant.step c.reap.ensures.step;
+  count = omega (arith, c.if-not-reap.ensures.one);
+  capacity = c.reap.ensures.more.capacity ∙ c.loop-turn.invariant.capacity;
 }
 
 pub returns-clause-reaps : goal.returns-clause-reaps
-returns-clause-reaps c = λ s l set stands.
-    absurd (reaps_end set stands (c.loop-turn.invariant.reaps s l set stands) (omega arith))
+returns-clause-reaps c = λ l free. absurd (reaps_end (run_set c.requires.seat.run) free (c.loop-turn.invariant.reaps l free) (omega arith))

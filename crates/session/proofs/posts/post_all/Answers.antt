@@ -3,15 +3,17 @@ use Rattle.std.proofs.lemmas.Bool.{cases_eq}
 use Rattle.controller.specs.Pair.{PairState, pair_of}
 use Rattle.session.specs.declared.lane_run.LaneRun.{LaneRun}
 use Rattle.session.specs.Work.{MayPost}
-use Rattle.session.proofs.AllLanesLemmas.{all_led, each_run, fit_more, led_more, more_more, none_yet, other_pair, run_here, seat_at}
+use Rattle.turns.proofs.PartLaws.{none_yet}
+use Rattle.session.proofs.LanePartLemmas.{leads_none}
+use Rattle.session.proofs.AllLanesLemmas.{all_led, each_run, fit_more, led_more, more_more, other_pair, run_here, seat_at}
 use Rattle.session.proofs.WorkLemmas.{may_post}
 use Rattle.session.proofs.posts.post_all.Goals as goal
 
 pub loop-at-init : goal.loop-at-init
 loop-at-init g c = record {
-  leads = λ lanes stands. none_yet _ _ lanes c.args.events.now.items stands;
-  fit = c.requires.has.fit;
-  may = λ k d low high _. may_post (c.requires.has.planned k low high) (c.requires.done k d low high);
+  leads = λ lanes stands. leads_none lanes c.args.events.now.items stands (none_yet _ lanes);
+  fit = c.requires.has.0.fit;
+  may = λ k d low high _. may_post (c.requires.has.0.planned k low high) (c.requires.has.1 k d low high);
   commands = λ k low high none. absurd (omega (arith, low, none));
   results = λ k d low high none. absurd (omega (arith, low, none));
   namespace = refl;
@@ -47,16 +49,16 @@ loop-at-preserved g c =
     let place = c.post.new.self in
     record {
       leads = λ lanes stands. led_more i k old_run run is.1 there was.fit stands.count c.index_mut.ensures.value did.seat (was.leads lanes stands) did.leads;
-      fit = fit_more i k run is.1 there did.run.0 did.seat was.fit;
+      fit = fit_more i k run is.1 there did.rests.0 did.seat was.fit;
       may = λ j d low high after. each_run c.loop-at.runs.items i k run (λ m (r : LaneRun). i + 1 < m → MayPost s m r (pair_of place.controller m)) s.head.lanes d is.1 there was.fit.own.count
           (λ past. absurd (omega (arith, is.1, past)))
           (λ m first last other past. subst (λ (p : PairState). MayPost s m (get_or c.loop-at.runs.items (m - 1) d) p) (sym (other_pair m k did.seat.pairs first is.0.there.0 other)) (was.may m d first last (omega (arith, past)))) j low high after;
       commands = λ j low high upto. ⊎_elim
-          (λ (here : j ≡ k). ap (λ (m : ℕ). (pair_of place.controller m).commands) here ∙ did.none)
+          (λ (here : j ≡ k). ap (λ (m : ℕ). (pair_of place.controller m).commands) here ∙ did.rests.2)
           (λ (other : j ≡ k → ⊥). ap (λ (p : PairState). p.commands) (other_pair j k did.seat.pairs low is.0.there.0 other) ∙ was.commands j low high (omega (arith, upto, is.1, other)))
           (cases_eq j k);
       results = λ j d low high upto. each_run c.loop-at.runs.items i k run (λ m (r : LaneRun). m ≤ i + 1 → r.results.items ≡ []) s.head.lanes d is.1 there was.fit.own.count
-          (λ _. did.run.1) (λ m first last other early. was.results m d first last (omega (arith, is.1, early, other))) j low high upto;
+          (λ _. did.rests.1) (λ m first last other early. was.results m d first last (omega (arith, is.1, early, other))) j low high upto;
       namespace = did.seat.namespace ∙ was.namespace;
       more = more_more (omega arith) was.more did.more;
     }
@@ -64,11 +66,14 @@ loop-at-preserved g c =
 pub returns-clause-leads : goal.returns-clause-leads
 returns-clause-leads g c = λ lanes stands. all_led stands.count (omega arith) (c.loop-at.invariant.leads lanes stands)
 
-pub returns-clause-quiet : goal.returns-clause-quiet
-returns-clause-quiet g c = record {
-  commands = λ k low high. c.loop-at.invariant.commands k low high (omega (arith, high));
-  results = λ k d low high. c.loop-at.invariant.results k d low high (omega (arith, high));
-}
+pub returns-clause-rests : goal.returns-clause-rests
+returns-clause-rests g c = (
+  c.loop-at.invariant.fit,
+  record {
+    commands = λ k low high. c.loop-at.invariant.commands k low high (omega (arith, high));
+    results = λ k d low high. c.loop-at.invariant.results k d low high (omega (arith, high));
+  },
+)
 
 pub returns-clause-more : goal.returns-clause-more
 returns-clause-more g c =

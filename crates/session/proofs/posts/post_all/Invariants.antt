@@ -7,7 +7,7 @@ use Rattle.session.specs.LaneParts.{HasMore, Leads}
 use Rattle.session.specs.Phases.{Fit}
 use Rattle.session.specs.Place.{StandsFor}
 use Rattle.session.specs.Work.{MayPost}
-use Rattle.session.proofs.AllLanesLemmas.{SoFar}
+use Rattle.turns.specs.Parts.{SoFar}
 use Rattle.session.proofs.posts.post_all.Given as goal
 
 abbrev pub invariant-loop-at : goal.invariant-loop-at

@@ -51,16 +51,23 @@ returns-clause-leads c = λ l stands.
     let k = c.args.run.now.script.lane in
     let commands = (pair_of c.args.controller.now k).commands in
     let running = stands.running ∙ ap (λ (rs : List PieceResult). worked s.head.shelf commands (outcomes_of rs)) (sym c.as_slice.ensures.value) in
-    let posts = c.finish_turn.ensures.posts.step s l (run_set c.requires.run) c.requires.may.told (stands_control stands) running in
+    let posts = c.finish_turn.ensures.posts.step s l (run_set c.requires.seat.run) c.requires.may.told (stands_control stands) running in
     let told = c.push_posts.ensures.events ∙ ap (λ (ts : List (ℕ × StatusPair)). c.args.events.now.items ++ map (post_line k) ts) c.posted.ensures in
     subst (λ (es : List Line). Leads (PostsAll s k) (Stands s k (record c.args.run.now { results = c.clear.new.self }) (pair_of c.finish_turn.new.self k) c.finish_turn.new.w) l c.args.events.now.items es) (sym told)
     (posts_lane c.args.events.now.items stands refl refl posts (kept c).commands)
 
-pub returns-clause-none : goal.returns-clause-none
-returns-clause-none c = (search rules, (kept c).commands)
-
-pub returns-clause-window : goal.returns-clause-window
-returns-clause-window c = record { lane = (kept c).lane ∙ c.requires.window.lane; size = (kept c).size ∙ c.requires.window.size }
+pub returns-clause-rests : goal.returns-clause-rests
+returns-clause-rests c =
+    let run = c.requires.seat.run in
+    record {
+      seat = record {
+        run = record { script = run.script; lane = run.lane; guest = run.guest; few = run.few; room = omega (arith, run.room, c.clear.ensures.capacity) };
+        window = record { lane = (kept c).lane ∙ c.requires.seat.window.lane; size = (kept c).size ∙ c.requires.seat.window.size };
+        there = omega (arith, c.requires.seat.there, (pair_stepped c.finish_turn.ensures.step).count);
+      };
+      commands = (kept c).commands;
+      results = search rules;
+    }
 
 pub returns-clause-others : goal.returns-clause-others
 returns-clause-others c = pair_stepped c.finish_turn.ensures.step

@@ -1,4 +1,4 @@
-use Rattle.std.proofs.Common.{List, [], subst, arith}
+use Rattle.std.proofs.Common.{List, subst}
 use Rattle.nvm_model.specs.declared.line.Line.{Line}
 use Rattle.nvm_model.specs.Turn.{InLanes, Plans}
 use Rattle.session.specs.LaneParts.{Leads}
@@ -25,11 +25,11 @@ phases g c =
       worked_place = c.do_pieces.new.place;
       worked_events = c.do_pieces.new.events.items;
       works = c.do_pieces.ensures.works;
-      finished = λ lanes stands. none_is_left c.do_pieces.ensures.has c.do_pieces.ensures.done stands;
+      finished = λ lanes stands. none_is_left c.do_pieces.ensures.has.0 c.do_pieces.ensures.has.1 stands;
       posts = c.post_all.ensures.leads;
       posts_kept = c.post_all.ensures.namespace;
-      fit = c.post_all.ensures.fit;
-      quiet = c.post_all.ensures.quiet;
+      fit = c.post_all.ensures.rests.0;
+      quiet = c.post_all.ensures.rests.1;
       mix = c.do_pieces.ensures.mix;
     }
 

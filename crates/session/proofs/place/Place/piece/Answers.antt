@@ -1,20 +1,20 @@
-use Rattle.std.proofs.Common.{◌≡◌, ◌-◌, ◌<◌, ◌≤◌, get_or, length, subst, sym, refl, ap, ◌∙◌, arith}
+use Rattle.std.proofs.Common.{◌≡◌, ◌-◌, ◌<◌, ◌≤◌, get_or, length, subst, sym, arith}
 use Rattle.guest_ram.specs.Window.{WindowState, data_pages}
 use Rattle.nvm_blocks.specs.Namespace.{HasAppliedIn, IsForNamespace}
 use Rattle.nvm_blocks.specs.Work.{IsSameButData}
 use Rattle.session.specs.Lanes.{window_of}
 use Rattle.session.specs.Place.{PlaceState}
 use Rattle.session.specs.Seats.{HasRooms}
-use Rattle.session.proofs.SeatLemmas.{cleared_room, lent_back, lent_window, piece_done}
+use Rattle.session.proofs.SeatLemmas.{cleared_room, entry_there, lent_back, lent_window, piece_done}
 use Rattle.session.proofs.place.Place.piece.Goals as goal
 
 pub serve_serial-requires-clause-room : goal.serve_serial-requires-clause-room
 serve_serial-requires-clause-room g c =
     let piece = subst (λ (p : PlaceState g.row.M.Denot). IsForNamespace p.namespace (length (data_pages (window_of p.windows c.args.piece.now.lane))) c.args.piece.now) (sym c.self.view_is) c.requires.piece in
-    cleared_room c.self.inside.namespace c.args.piece.now.span.first c.clear.ensures (subst (λ (p : PlaceState g.row.M.Denot). HasRooms p.namespace) (sym c.self.view_is) c.requires.rooms) (omega (arith, piece.some, piece.within))
+    cleared_room c.self.inside.namespace c.args.piece.now.span.first c.clear_at.ensures (subst (λ (p : PlaceState g.row.M.Denot). HasRooms p.namespace) (sym c.self.view_is) c.requires.rooms) (omega (arith, piece.some, piece.within))
 
-pub returns : goal.returns
-returns g c = rw (← c.self.view_is)
+pub returns-clause-done : goal.returns-clause-done
+returns-clause-done g c = rw (← c.self.view_is)
     let k = c.args.piece.now.lane in
     let ram = c.self.inside.ram in
     let new = c.serve_serial.new in
@@ -24,6 +24,12 @@ returns g c = rw (← c.self.view_is)
     let there : k - 1 < length ram = omega (arith, lane, c.get.ensures.range, c.get.ensures.value) in
     let is = c.windows-windows.ensures.value in
     let window : window_of ram k ≡ get_or c.windows-windows.result.now (c.from-at.result - 1) c.index-windows-at.result = lent_window k c.index-windows-at.result is i there in
-    piece_done new.w c.clear.ensures (lent_back k new.w is i) there
-    (subst (λ (w : WindowState). HasAppliedIn g.M.Medium.state g.M.Medium.moves c.args.piece.now c.serve_serial.result c.clear.new.self (data_pages w) new.namespace (data_pages new.w)) (sym window) did.applied)
+    piece_done new.w c.clear_at.ensures (lent_back k new.w is i) there
+    (subst (λ (w : WindowState). HasAppliedIn g.M.Medium.state g.M.Medium.moves c.args.piece.now c.serve_serial.result c.clear_at.new.self (data_pages w) new.namespace (data_pages new.w)) (sym window) did.applied)
     (subst (λ (w : WindowState). IsSameButData w new.w) (sym window) did.window) did.same
+
+pub returns-clause-entry : goal.returns-clause-entry
+returns-clause-entry g c = rw (← c.self.view_is)
+    let piece = subst (λ (p : PlaceState g.row.M.Denot). IsForNamespace p.namespace (length (data_pages (window_of p.windows c.args.piece.now.lane))) c.args.piece.now) (sym c.self.view_is) c.requires.piece in
+    let rooms = subst (λ (p : PlaceState g.row.M.Denot). HasRooms p.namespace) (sym c.self.view_is) c.requires.rooms in
+    entry_there c.self.inside.namespace c.serve_serial.new.namespace _ _ c.clear_at.ensures rooms (omega (arith, piece.some, piece.within)) c.serve_serial.ensures.entry

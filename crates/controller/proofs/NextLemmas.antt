@@ -1,4 +1,4 @@
-use Rattle.std.proofs.Common.{◌≡◌, ℕ, suc, ◌+◌, ◌-◌, ◌*◌, ◌<◌, ◌≤◌, ⊎_elim, List, [], ◌∷◌, ◌++◌, Option, Some, None, All, length, map, sum, take, drop, slice_get, slice_index_or, slice_set, refl, sym, ap, subst, ◌∙◌, arith}
+use Rattle.std.proofs.Common.{◌≡◌, ℕ, zero, suc, ◌+◌, ◌-◌, ◌*◌, ◌<◌, ◌≤◌, ⊎_elim, List, [], ◌∷◌, ◌++◌, Option, Some, None, All, get_or, length, map, sum, take, drop, slice_get, slice_index_or, slice_set, refl, sym, ap, subst, ◌∙◌, arith}
 use Rattle.std.proofs.lemmas.Bool.{cases_lt}
 use Rattle.std.proofs.lemmas.List.{length-append, length-take, length-drop, take_all, drop_all, take-append-le, drop-append-le, get_or_append_left, get_or-append_right}
 use Rattle.std.proofs.lemmas.List.Elements.{All-nil, All-cons, All-head, All-tail}
@@ -13,13 +13,25 @@ use Rattle.nvm_model.specs.Piece.{after_piece, piece_count, pieces_left}
 use Rattle.nvm_cmd.specs.Answer.{job_of}
 use Rattle.nvm_cmd.specs.Cut.{piece_of}
 use Rattle.nvm_cmd.proofs.CutLemmas.{part_in_shelf}
-use Rattle.nvm_model.specs.declared.script.Head.{Head}
-use Rattle.session.specs.Work.{IsPartFor}
 use Rattle.controller.proofs.PlanLemmas.{few_pieces}
-use Rattle.session.proofs.PieceLemmas.{part_pages}
+use Rattle.std.specs.Prelude.{IsTrue}
+use Rattle.std.proofs.lemmas.List.{get_or-take}
+use Rattle.nvm_values.specs.Op.{moves_data}
+use Rattle.nvm_model.specs.declared.script.LaneSet.{LaneSet}
+use Rattle.nvm_model.specs.Check.{pages_needed}
+use Rattle.nvm_model.specs.Memory.{page_at}
+use Rattle.nvm_model.specs.Piece.{page_of}
+use Rattle.nvm_model.specs.Ring.{IsCqPage, IsSqRing}
+use Rattle.nvm_model.specs.World.{Lane}
+use Rattle.nvm_ring.specs.Queues.{HasWindow, IsOrdered, posted_entries, sq_of}
+use Rattle.nvm_blocks.specs.Namespace.{IsForNamespace, NamespaceState, block_count}
+use Rattle.nvm_blocks.specs.Work.{HasPages, IsSameButData}
+use Rattle.nvm_cmd.specs.Cut.{IsPartOf}
+use Rattle.nvm_cmd.specs.declared.job.Job.{Job}
+use Rattle.guest_ram.specs.Window.{WindowState, data_pages}
 use Rattle.controller.specs.Pair.{IsFetched, IsNewWork, after_pieces, command_pieces, lane_pieces, worked}
 
--- The commands of a lane while their pieces are done, in their order.
+-- The commands of a lane while their pieces are done, in their order, and what the next piece asks for and leaves.
 
 -- One command.
 
@@ -94,6 +106,20 @@ left_worked shelf (c ∷ commands) os few =
     let others = left_worked shelf commands back (omega (arith, back_length, few, before)) in
     let now = sum_by-cons (λ (n : ℕ). n) (pieces_left shelf (after_pieces c front)) (map (pieces_left shelf) (worked shelf commands back)) in
     omega (arith, before, front_length, back_length, first, others, now)
+
+-- of nothing, nothing is taken and nothing is left
+none_left : {X : Type 0} (xs : List X) (n : ℕ) → length xs ≡ 0 → (take n xs ≡ xs) × (drop n xs ≡ xs)
+none_left [] zero none = (refl, refl)
+none_left [] (suc n) none = (refl, refl)
+none_left (x ∷ xs) n none = absurd (omega (arith, none))
+
+-- commands none of whose pieces was done
+pub none_worked : (shelf : ℕ) (commands : List Command) → worked shelf commands [] ≡ commands
+none_worked shelf [] = refl
+none_worked shelf (c ∷ cs) =
+    ap (λ (os : List Outcome). after_pieces c os ∷ worked shelf cs (drop (pieces_left shelf c) [])) (none_left [] (pieces_left shelf c) refl).0
+    ∙ ap (λ (os : List Outcome). c ∷ worked shelf cs os) (none_left [] (pieces_left shelf c) refl).1
+    ∙ ap (λ (ds : List Command). c ∷ ds) (none_worked shelf cs)
 
 -- The next piece of a lane: that of the first of its commands with one left.
 pub record IsNext (k shelf blocks pages : ℕ) (commands : List Command) (os : List Outcome) (piece : Piece) : Type 0 where
@@ -194,19 +220,60 @@ pub worked_length : (shelf : ℕ) (commands : List Command) (os : List Outcome) 
 worked_length shelf [] os = refl
 worked_length shelf (c ∷ commands) os = ap suc (worked_length shelf commands (drop (pieces_left shelf c) os))
 
--- the next piece has what the namespace asks of it
-pub next_part : {k : ℕ} {head : Head} {pages : ℕ} {commands : List Command} {os : List Outcome} {piece : Piece} → 1 ≤ head.shelf → IsNext k head.shelf head.blocks pages commands os piece → IsPartFor head pages piece
-next_part {k} {head} {pages} {commands} {os} {piece} large next =
+-- a part of a command's range has the data pages of its blocks
+part_pages : (k shelf i count : ℕ) (job : Job) → IsPartOf shelf job.span (piece_of k shelf i job).span → job.span.count ≤ 64 →
+    (IsTrue (moves_data job.op) → job.pages.used ≡ pages_needed job.span.count) →
+    (IsTrue (moves_data job.op) → (j : ℕ) → j < job.span.count → page_of job.pages j < count) →
+    HasPages (piece_of k shelf i job) count
+part_pages k shelf i count job part few used there = λ moves j inside.
+    let at = (piece_of k shelf i job).span.first - job.span.first + j in
+    let within : at < job.span.count = omega (arith, part.starts, part.ends, inside) in
+    (omega (arith, used moves, within), omega (arith, few, within), there moves at within)
+
+-- it is one for a namespace of these blocks
+pub next_fits : {M : Type 0} {k shelf blocks pages : ℕ} {commands : List Command} {os : List Outcome} {piece : Piece} (n : NamespaceState M) → n.shelf ≡ shelf → block_count n ≡ blocks → 1 ≤ shelf → IsNext k shelf blocks pages commands os piece → IsForNamespace n pages piece
+next_fits {k = k} {shelf} {pages = pages} {piece = piece} n shelf_is count large next =
     let job = job_of next.command.cid next.work in
-    let part = part_in_shelf head.shelf next.work.span next.work.done large next.left next.is_new.some in
-    subst (λ (p : Piece). IsPartFor head pages p) (sym next.piece_is) (record {
+    let part = part_in_shelf shelf next.work.span next.work.done large next.left next.is_new.some in
+    subst (λ (p : Piece). IsForNamespace n pages p) (sym next.piece_is) (record {
       op = next.is_new.op;
       some = part.some;
       few = omega (arith, part.starts, part.ends, next.is_new.few);
-      within = omega (arith, part.ends, next.is_new.within);
-      one_shelf = part.one_shelf;
-      has_pages = part_pages k head.shelf next.work.done pages job part next.is_new.few next.is_new.used next.is_new.there;
+      within = omega (arith, part.ends, next.is_new.within, count);
+      one_shelf = rw shelf_is part.one_shelf;
+      has_pages = part_pages k shelf next.work.done pages job part next.is_new.few next.is_new.used next.is_new.there;
     })
+
+-- the two ring pages stay
+page_stays : (window new : WindowState) (j : ℕ) → j < 2 → IsSameButData window new → page_at new.pages j ≡ page_at window.pages j
+page_stays window new j low same = sym (get_or-take 2 new.pages j [] low) ∙ ap (λ (l : List (List ℕ)). get_or l j []) same.rings ∙ get_or-take 2 window.pages j [] low
+
+-- the window of a lane whose data pages and running commands alone changed
+pub window_stays : (k : ℕ) (set : LaneSet) (window new : WindowState) (lane : Lane) (running : List Command) → IsSameButData window new → HasWindow k set window.pages lane → HasWindow k set new.pages (record lane { pages = data_pages new; running = running })
+window_stays k set window new lane running same is =
+    let first = page_stays window new 0 (omega arith) same in
+    let second = page_stays window new 1 (omega arith) same in
+    record {
+      size = same.count ∙ is.size;
+      sq = first ∙ is.sq;
+      cq = second ∙ is.cq;
+      memory = refl;
+      entries = subst (λ (page : List ℕ). IsSqRing (sq_of set lane) page (drop lane.fetched lane.submitted)) (sym first) is.entries;
+      completions = subst (λ (page : List ℕ). IsCqPage set.cq page (posted_entries k lane.posted)) (sym second) is.completions;
+    }
+
+-- and its queues
+pub order_stays : (set : LaneSet) (lane : Lane) (pages : List (List ℕ)) (running : List Command) → length running ≡ length lane.running → IsOrdered set lane → IsOrdered set (record lane { pages = pages; running = running })
+order_stays set lane pages running same is = record {
+  submitted = is.submitted;
+  fetched = is.fetched;
+  posted = omega (arith, is.posted, same);
+  reaped = is.reaped;
+  in_flight = is.in_flight;
+  told = is.told;
+  tells = is.tells;
+  untold = is.untold;
+}
 
 -- a new command has at most 64 pieces, by whether it has work
 few_by_work : (k shelf blocks pages : ℕ) (c : Command) (w : Option Work) → 1 ≤ shelf → c.work ≡ w → IsFetched blocks pages (record c { work = w }) → pieces_left shelf (record c { work = w }) ≤ 64
