@@ -6,6 +6,7 @@ ghost use Rattle.guest_ram.specs.Window.{no_window};
 
 use guest_ram::{BadPrp, Host, Pages, Ram, Window};
 use mig_base::LaneNo;
+use std::process::Abort;
 use std::test::Fail;
 
 // What a caller that passes a window on gets: the windows with that one replaced by what it ended as.
@@ -96,12 +97,50 @@ fn copies_a_page(rt: HostRuntime) -> Result<(), Fail> {
     Ok(())
 }
 
-fn pages(list: [u16; 8], used: u8) -> Result<Pages, BadPrp> {
-    Ok(Pages { list, used })
+/// Two pointers, a number of blocks, and the data pages that they name.
+type Found = (u64, u64, u32, [u16; 8], u8);
+
+/// The list page names data pages 11 down to 5.
+const FOUND: [Found; 4] = [
+    (33_566_720, 0, 8, [1, 0, 0, 0, 0, 0, 0, 0], 1),
+    (33_607_680, 33_562_624, 9, [11, 0, 0, 0, 0, 0, 0, 0], 2),
+    (33_562_624, 33_574_912, 17, [0, 11, 10, 0, 0, 0, 0, 0], 3),
+    (33_562_624, 33_574_912, 64, [0, 11, 10, 9, 8, 7, 6, 5], 8),
+];
+
+/// And the place of the first pointer that isn't right.
+type Bad = (u64, u64, u32, u8);
+
+const BAD: [Bad; 5] = [
+    (33_562_625, 33_574_913, 64, 0),
+    (33_558_528, 0, 1, 0),
+    (16_785_408, 0, 1, 0),
+    (33_562_624, 33_611_776, 16, 1),
+    (33_562_624, 33_574_920, 64, 8),
+];
+
+/// The same where the fourth entry of the list page names no data page.
+const FOUND_BEFORE: [Found; 1] = [(33_562_624, 33_574_912, 32, [0, 11, 10, 9, 0, 0, 0, 0], 4)];
+
+const BAD_BEHIND: [Bad; 2] = [
+    (33_562_624, 33_574_912, 33, 4),
+    (33_562_624, 33_611_776, 33, 8),
+];
+
+fn finds(rt: &impl Abort, window: &Window, rows: &[Found]) {
+    for (prp1, prp2, count, list, used) in rows {
+        assert!(rt; 1 <= *count && *count <= 64);
+        let (list, used) = (*list, *used);
+        assert!(rt; window.span_of(*prp1, *prp2, *count) == Ok(Pages { list, used }));
+    }
 }
 
-fn bad(which: u8) -> Result<Pages, BadPrp> {
-    Err(BadPrp { which })
+fn refuses(rt: &impl Abort, window: &Window, rows: &[Bad]) {
+    for (prp1, prp2, count, which) in rows {
+        assert!(rt; 1 <= *count && *count <= 64);
+        let which = *which;
+        assert!(rt; window.span_of(*prp1, *prp2, *count) == Err(BadPrp { which }));
+    }
 }
 
 #[test]
@@ -110,18 +149,10 @@ fn finds_pages(rt: HostRuntime) -> Result<(), Fail> {
     let windows = ram.windows();
     let window = &mut windows[1];
     write_list(window);
-    assert!(rt; window.span_of(33_566_720, 0, 8) == pages([1, 0, 0, 0, 0, 0, 0, 0], 1));
-    assert!(rt; window.span_of(33_607_680, 33_562_624, 9) == pages([11, 0, 0, 0, 0, 0, 0, 0], 2));
-    assert!(rt; window.span_of(33_562_624, 33_574_912, 17) == pages([0, 11, 10, 0, 0, 0, 0, 0], 3));
-    assert!(rt; window.span_of(33_562_624, 33_574_912, 64) == pages([0, 11, 10, 9, 8, 7, 6, 5], 8));
-    assert!(rt; window.span_of(33_562_625, 33_574_913, 64) == bad(0));
-    assert!(rt; window.span_of(33_558_528, 0, 1) == bad(0));
-    assert!(rt; window.span_of(16_785_408, 0, 1) == bad(0));
-    assert!(rt; window.span_of(33_562_624, 33_611_776, 16) == bad(1));
-    assert!(rt; window.span_of(33_562_624, 33_574_920, 64) == bad(8));
+    finds(&rt, window, &FOUND);
+    refuses(&rt, window, &BAD);
     write_entry(window, 3, 12);
-    assert!(rt; window.span_of(33_562_624, 33_574_912, 32) == pages([0, 11, 10, 9, 0, 0, 0, 0], 4));
-    assert!(rt; window.span_of(33_562_624, 33_574_912, 33) == bad(4));
-    assert!(rt; window.span_of(33_562_624, 33_611_776, 33) == bad(8));
+    finds(&rt, window, &FOUND_BEFORE);
+    refuses(&rt, window, &BAD_BEHIND);
     Ok(())
 }
