@@ -1,6 +1,6 @@
 #!/usr/bin/env python3
-"""Runs the proved program three times on large scripts of three sizes each, and prints the least user seconds, the least
-processor seconds, the least that passed, and peak memory.
+"""Runs the proved program three times on large scripts of three sizes each, lets it judge each transcript, and prints of
+both the least user seconds, the least processor seconds, the least that passed, and peak memory.
 
 Usage: bench/measure.py [PROGRAM]
 
@@ -82,36 +82,50 @@ KINDS = [
 ]
 
 
+def run(program, words, source, sink):
+    """User, processor and passed seconds, peak kilobytes and exit status of one run."""
+    with open(source, "rb") as given, open(sink, "wb") as got:
+        start = time.monotonic()
+        child = subprocess.Popen([program, *words], stdin=given, stdout=got)
+        _, status, usage = os.wait4(child.pid, 0)
+        seconds = time.monotonic() - start
+    user, processor = usage.ru_utime, usage.ru_utime + usage.ru_stime
+    return user, processor, seconds, usage.ru_maxrss, os.waitstatus_to_exitcode(status)
+
+
 def measure(program, lines):
-    """User, processor and passed seconds, peak kilobytes and exit status of one run, and the bytes of its transcript."""
+    """A run of a script and the judging of its transcript, one behind the other, and the bytes of the transcript."""
     blocks, shelf = lines[1].split()[1], lines[2].split()[1]
     with tempfile.TemporaryDirectory() as folder:
-        script, text = os.path.join(folder, "script"), os.path.join(folder, "text")
+        script, text, said = (os.path.join(folder, name) for name in ("script", "text", "said"))
         with open(script, "w") as f:
             f.write("\n".join(lines + ["end"]) + "\n")
-        with open(script) as source, open(text, "wb") as sink:
-            start = time.monotonic()
-            child = subprocess.Popen([program, "run", "serial", blocks, shelf], stdin=source, stdout=sink)
-            _, status, usage = os.wait4(child.pid, 0)
-            seconds = time.monotonic() - start
-        user, processor = usage.ru_utime, usage.ru_utime + usage.ru_stime
-        return user, processor, seconds, usage.ru_maxrss, os.waitstatus_to_exitcode(status), os.path.getsize(text)
+        ran = run(program, ["run", "serial", blocks, shelf], script, text)
+        size = os.path.getsize(text)
+        with open(text, "rb") as transcript, open(script, "ab") as f:
+            f.write(transcript.read())
+        return *ran, *run(program, ["check"], script, said), size
 
 
 def measure_best(program, lines):
     """Of several runs the least seconds of each kind, as other work makes a run longer, and the most of the rest."""
     columns = list(zip(*(measure(program, lines) for _ in range(RUNS))))
-    return [min(column) for column in columns[:3]] + [max(column) for column in columns[3:]]
+    return [(min if place % 5 < 3 else max)(column) for place, column in enumerate(columns)]
 
 
 def main():
     program = sys.argv[1] if len(sys.argv) > 1 else os.path.join(TOP, "nvmigrate")
     subprocess.run([program, "--version"], check=True, stdout=subprocess.DEVNULL)
-    print(f"{'input':24} {'size':>7} {'user':>6} {'processor':>9} {'seconds':>8} {'peak KiB':>9} {'transcript':>11} status")
+    columns = f"{'user':>6} {'processor':>9} {'seconds':>8} {'peak KiB':>9} {'status':>6}"
+    print(f"{'input':24} {'size':>7} {columns} {'transcript':>11} check: {columns}")
     for name, make, sizes in KINDS:
         for size in sizes:
-            user, processor, seconds, peak, status, text = measure_best(program, make(size))
-            print(f"{name:24} {size:7} {user:6.2f} {processor:9.2f} {seconds:8.2f} {peak:9} {text:11} {status}")
+            *numbers, text = measure_best(program, make(size))
+            ran, judged = (
+                f"{user:6.2f} {processor:9.2f} {seconds:8.2f} {peak:9} {status:6}"
+                for user, processor, seconds, peak, status in (numbers[:5], numbers[5:])
+            )
+            print(f"{name:24} {size:7} {ran} {text:11}        {judged}")
 
 
 if __name__ == "__main__":

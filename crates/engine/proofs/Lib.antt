@@ -5,3 +5,4 @@ pub mod SizeLemmas
 pub mod NamespaceLemmas
 pub mod HostLemmas
 pub mod TopLemmas
+pub mod CheckLemmas

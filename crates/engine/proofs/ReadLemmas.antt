@@ -7,7 +7,7 @@ use Rattle.script.proofs.OneBadLine.{no_bad_line}
 use Rattle.script.specs.declared.refusal.Why.TheVariants.{Range}
 use Rattle.nvm_model.specs.ScriptText.{IsScript}
 use Rattle.engine.specs.declared.status.Status.{Status}
-use Rattle.engine.specs.declared.status.Status.TheVariants.{Done, Usage, BadScript, TooLong, OutOfMemory as NoMemory, HostSize, ReadFault, WriteFault, GaveUp}
+use Rattle.engine.specs.declared.status.Status.TheVariants.{Done, Usage, BadScript, TooLong, OutOfMemory as NoMemory, HostSize, ReadFault, WriteFault, GaveUp, Refused}
 use Rattle.engine.specs.Claims.{IsReadRefusal, IsRefusal}
 use Rattle.engine.specs.Built.{IsBuilt, IsUnbuilt, Spells, SpellsNone, SpellsOnly, TellsBadLine}
 
@@ -35,6 +35,7 @@ not_read told before now from to ReadFault is = record { bad_script = tt; bad_li
 not_read told before now from to NoMemory is = record { bad_script = tt; bad_line = tt; too_long = tt; host_size = tt; read_fault = tt; not_run = tt }
 not_read told before now from to Done is = absurd is
 not_read told before now from to GaveUp is = absurd is
+not_read told before now from to (Refused line why) is = absurd is
 not_read told before now from to Usage is = absurd is
 not_read told before now from to (HostSize kept asked) is = absurd is
 not_read told before now from to WriteFault is = absurd is

@@ -7,7 +7,7 @@ use Rattle.script.specs.BadLine.{IsBadLine}
 use Rattle.script.specs.declared.refusal.Why.{Why}
 use Rattle.show.specs.ShowText.{show_text}
 use Rattle.engine.specs.declared.status.Status.{Status}
-use Rattle.engine.specs.declared.status.Status.TheVariants.{Done, Usage, BadScript, TooLong, OutOfMemory, HostSize, ReadFault, WriteFault, GaveUp}
+use Rattle.engine.specs.declared.status.Status.TheVariants.{Done, Usage, BadScript, TooLong, OutOfMemory, HostSize, ReadFault, WriteFault, GaveUp, Refused}
 use Rattle.engine.specs.Built.{Spells, SpellsOne, SpellsNone, TellsBadLine, TellsUnbuilt, IsTooLong}
 use Rattle.engine.specs.Sizes.{Differ}
 use Rattle.engine.specs.Words.{IsForm, IsNoForm}
@@ -22,6 +22,7 @@ IsReadRefusal told before now ReadFault = RisesBy 1 before now
 IsReadRefusal told before now OutOfMemory = Unit {0}
 IsReadRefusal told before now Done = ⊥
 IsReadRefusal told before now GaveUp = ⊥
+IsReadRefusal told before now (Refused line why) = ⊥
 IsReadRefusal told before now Usage = ⊥
 IsReadRefusal told before now (HostSize kept asked) = ⊥
 IsReadRefusal told before now WriteFault = ⊥
@@ -34,6 +35,7 @@ IsNoScript text TooLong = ⊥
 IsNoScript text ReadFault = ⊥
 IsNoScript text Done = ⊥
 IsNoScript text GaveUp = ⊥
+IsNoScript text (Refused line why) = ⊥
 IsNoScript text Usage = ⊥
 IsNoScript text (HostSize kept asked) = ⊥
 IsNoScript text WriteFault = ⊥
@@ -42,6 +44,7 @@ IsNoScript text WriteFault = ⊥
 abbrev pub OnEnded : Status → Type 0 → Type 0
 OnEnded Done claim = claim
 OnEnded GaveUp claim = claim
+OnEnded (Refused line why) claim = Unit {0}
 OnEnded Usage claim = Unit {0}
 OnEnded (BadScript line why) claim = Unit {0}
 OnEnded TooLong claim = Unit {0}
@@ -55,6 +58,7 @@ abbrev pub OnWriteFault : Status → Type 0 → Type 0
 OnWriteFault WriteFault claim = claim
 OnWriteFault Done claim = Unit {0}
 OnWriteFault GaveUp claim = Unit {0}
+OnWriteFault (Refused line why) claim = Unit {0}
 OnWriteFault Usage claim = Unit {0}
 OnWriteFault (BadScript line why) claim = Unit {0}
 OnWriteFault TooLong claim = Unit {0}
@@ -72,6 +76,7 @@ abbrev pub IsUsage : List (List ℕ) → Status → Type 0
 IsUsage words Usage = IsNoForm words
 IsUsage words Done = IsForm words
 IsUsage words GaveUp = IsForm words
+IsUsage words (Refused line why) = IsForm words
 IsUsage words (BadScript line why) = IsForm words
 IsUsage words TooLong = IsForm words
 IsUsage words OutOfMemory = IsForm words
@@ -79,11 +84,13 @@ IsUsage words (HostSize kept asked) = IsForm words
 IsUsage words ReadFault = IsForm words
 IsUsage words WriteFault = IsForm words
 
--- `BadScript` where the whole input spells no script that is taken, and a run or a comparison of sizes where it spells one
+-- `BadScript` where the whole input spells no script that is taken, and a run or a comparison of sizes where it spells
+-- one; a run judges nothing
 abbrev pub IsBadScript : Option (List ℕ) → Status → Type 0
 IsBadScript told (BadScript line why) = SpellsNone told
 IsBadScript told Done = SpellsOne told
 IsBadScript told GaveUp = SpellsOne told
+IsBadScript told (Refused line why) = ⊥
 IsBadScript told (HostSize kept asked) = SpellsOne told
 IsBadScript told WriteFault = SpellsOne told
 IsBadScript told Usage = Unit {0}
@@ -96,6 +103,7 @@ abbrev pub OnBadScript : Status → (ℕ → Why → Type 0) → Type 0
 OnBadScript (BadScript line why) P = P line why
 OnBadScript Done P = Unit {0}
 OnBadScript GaveUp P = Unit {0}
+OnBadScript (Refused line why) P = Unit {0}
 OnBadScript (HostSize kept asked) P = Unit {0}
 OnBadScript WriteFault P = Unit {0}
 OnBadScript Usage P = Unit {0}
@@ -119,6 +127,7 @@ IsShown told before after WriteFault = SpellsScript told (λ s. IsCut (show_text
 IsShown told before after (BadScript line why) = TellsBadLine told line why
 IsShown told before after Usage = ⊥
 IsShown told before after GaveUp = ⊥
+IsShown told before after (Refused line why) = ⊥
 IsShown told before after (HostSize kept asked) = ⊥
 IsShown told before after TooLong = Unit {0}
 IsShown told before after OutOfMemory = Unit {0}
@@ -129,6 +138,7 @@ abbrev pub IsLong : Option (List ℕ) → Status → Type 0
 IsLong told TooLong = IsTooLong told
 IsLong told Done = Unit {0}
 IsLong told GaveUp = Unit {0}
+IsLong told (Refused line why) = Unit {0}
 IsLong told Usage = Unit {0}
 IsLong told (BadScript line why) = Unit {0}
 IsLong told OutOfMemory = Unit {0}
@@ -141,6 +151,7 @@ abbrev pub IsHostSize : Option (List ℕ) → List ℕ → List ℕ → Status �
 IsHostSize told from to (HostSize kept asked) = Differ told from to (Some (kept, asked))
 IsHostSize told from to Done = Differ told from to None
 IsHostSize told from to GaveUp = Differ told from to None
+IsHostSize told from to (Refused line why) = Unit {0}
 IsHostSize told from to WriteFault = Differ told from to None
 IsHostSize told from to Usage = Unit {0}
 IsHostSize told from to (BadScript line why) = Unit {0}
@@ -153,6 +164,7 @@ abbrev pub IsReadFault : ℕ → ℕ → Status → Type 0
 IsReadFault before now ReadFault = RisesBy 1 before now
 IsReadFault before now Done = Unit {0}
 IsReadFault before now GaveUp = Unit {0}
+IsReadFault before now (Refused line why) = Unit {0}
 IsReadFault before now Usage = Unit {0}
 IsReadFault before now (BadScript line why) = Unit {0}
 IsReadFault before now TooLong = Unit {0}
@@ -164,6 +176,7 @@ abbrev pub IsWriteFault : ℕ → ℕ → Status → Type 0
 IsWriteFault before now WriteFault = RisesBy 1 before now
 IsWriteFault before now Done = Unit {0}
 IsWriteFault before now GaveUp = Unit {0}
+IsWriteFault before now (Refused line why) = Unit {0}
 IsWriteFault before now Usage = Unit {0}
 IsWriteFault before now (BadScript line why) = Unit {0}
 IsWriteFault before now TooLong = Unit {0}
@@ -171,10 +184,11 @@ IsWriteFault before now OutOfMemory = Unit {0}
 IsWriteFault before now (HostSize kept asked) = Unit {0}
 IsWriteFault before now ReadFault = Unit {0}
 
--- of an answer that comes before the first line of a run
+-- of an answer that comes before the first line of a run, or before what is shown or said
 abbrev pub OnRefused : Status → Type 0 → Type 0
 OnRefused Done claim = Unit {0}
 OnRefused GaveUp claim = Unit {0}
+OnRefused (Refused line why) claim = Unit {0}
 OnRefused WriteFault claim = Unit {0}
 OnRefused Usage claim = claim
 OnRefused (BadScript line why) claim = claim
@@ -186,6 +200,7 @@ OnRefused ReadFault claim = claim
 abbrev pub IsBeforeRun : Status → Type 0
 IsBeforeRun Done = ⊥
 IsBeforeRun GaveUp = ⊥
+IsBeforeRun (Refused line why) = ⊥
 IsBeforeRun WriteFault = ⊥
 IsBeforeRun Usage = ⊥
 IsBeforeRun (BadScript line why) = Unit {0}

@@ -6,3 +6,4 @@ pub mod Claims
 pub mod Room
 pub mod Headline
 pub mod Ended
+pub mod Checked

@@ -1,6 +1,6 @@
 use Rattle.std.specs.Prelude.{◌≡◌, ◌⊎◌, ℕ, ◌*◌, ◌≤◌, List, [], ◌∷◌, codes, decimal}
 use Rattle.engine.specs.declared.words.Form.{Form}
-use Rattle.engine.specs.declared.words.Form.TheVariants.{RunSerial, Show}
+use Rattle.engine.specs.declared.words.Form.TheVariants.{RunSerial, Show, Check}
 
 -- The words `run serial BLOCKS SHELF`, with a namespace of so many blocks in at most 64 shelves of so many.
 pub record IsRunSerial (words : List (List ℕ)) (blocks shelf : ℕ) : Type 0 where
@@ -21,12 +21,16 @@ pub record AreSizes (blocks_word shelf_word : List ℕ) (blocks shelf : ℕ) : T
 abbrev pub IsShow : List (List ℕ) → Type 0
 IsShow words = words ≡ codes "show" ∷ []
 
+-- the word `check`
+abbrev pub IsCheck : List (List ℕ) → Type 0
+IsCheck words = words ≡ codes "check" ∷ []
+
 -- words of a form, and words of none
 abbrev pub IsForm : List (List ℕ) → Type 0
-IsForm words = ((blocks : ℕ) × (shelf : ℕ) × IsRunSerial words blocks shelf) ⊎ IsShow words
+IsForm words = ((blocks : ℕ) × (shelf : ℕ) × IsRunSerial words blocks shelf) ⊎ (IsShow words ⊎ IsCheck words)
 
 abbrev pub IsNoForm : List (List ℕ) → Type 0
-IsNoForm words = ((blocks shelf : ℕ) → IsRunSerial words blocks shelf → ⊥) × (IsShow words → ⊥)
+IsNoForm words = ((blocks shelf : ℕ) → IsRunSerial words blocks shelf → ⊥) × (IsShow words → ⊥) × (IsCheck words → ⊥)
 
 -- what holds of a call whose words run a script, and of one whose word shows it
 abbrev pub IfRuns : List (List ℕ) → Type 0 → Type 0
@@ -35,7 +39,15 @@ IfRuns words claim = (blocks shelf : ℕ) → IsRunSerial words blocks shelf →
 abbrev pub IfShows : List (List ℕ) → Type 0 → Type 0
 IfShows words claim = IsShow words → claim
 
+-- of one whose word judges a transcript, and of every other
+abbrev pub IfChecks : List (List ℕ) → Type 0 → Type 0
+IfChecks words claim = IsCheck words → claim
+
+abbrev pub UnlessChecks : List (List ℕ) → Type 0 → Type 0
+UnlessChecks words claim = (IsCheck words → ⊥) → claim
+
 -- what the words are, by what they ask for
 abbrev pub HasForm : Form → List (List ℕ) → Type 0
-HasForm RunSerial words = ((blocks : ℕ) × (shelf : ℕ) × IsRunSerial words blocks shelf) × (IsShow words → ⊥)
-HasForm Show words = IsShow words × ((blocks shelf : ℕ) → IsRunSerial words blocks shelf → ⊥)
+HasForm RunSerial words = ((blocks : ℕ) × (shelf : ℕ) × IsRunSerial words blocks shelf) × (IsShow words → ⊥) × (IsCheck words → ⊥)
+HasForm Show words = IsShow words × ((blocks shelf : ℕ) → IsRunSerial words blocks shelf → ⊥) × (IsCheck words → ⊥)
+HasForm Check words = IsCheck words × ((blocks shelf : ℕ) → IsRunSerial words blocks shelf → ⊥) × (IsShow words → ⊥)

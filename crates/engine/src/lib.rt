@@ -1,8 +1,10 @@
-//! The top call: it reads words and a script, and runs the script's guests over the hosts or shows what it asks for. Its
-//! contract is the product's: the transcript of a run is a legal and complete history of one controller over one array
-//! of blocks, the hosts hold the worlds that it reaches, and every other answer has its cause.
+//! The top call: it reads words and a script, and runs the script's guests over the hosts, shows what it asks for, or
+//! judges a transcript of it. Its contract is the product's: the transcript of a run is a legal and complete history of
+//! one controller over one array of blocks, the hosts hold the worlds that it reaches, what is said of a transcript is
+//! true of it, and every other answer has its cause.
 #![tactic(auto)]
 
+mod checking;
 mod free_gate;
 mod hosts;
 mod reading;
@@ -13,6 +15,7 @@ mod top;
 mod words;
 
 pub use free_gate::FreeGate;
+pub use judge::Fault;
 pub use script::Why;
 pub use status::Status;
 pub use top::nvmigrate;

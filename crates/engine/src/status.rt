@@ -1,7 +1,9 @@
 ghost use Rattle.std.specs.Prelude.{◌≡◌, ◌≤◌, ◌++◌, [], codes, decimal, length};
 ghost use Rattle.mig_base.specs.Stream.{Writes};
-ghost use Rattle.engine.specs.StatusText.{code_of, why_text, status_text};
+ghost use Rattle.engine.specs.StatusText.{code_of, fault_text, why_text, status_text};
 
+use crate::checking::push_fault;
+use judge::Fault;
 use line_buf::{LineBuf, write_line};
 use mig_base::{Failed, Sink};
 use script::Why;
@@ -27,6 +29,8 @@ pub enum Status {
     WriteFault,
     /// It came to its end, and the migration was given up where a medium failed.
     GaveUp,
+    /// The transcript isn't right: its first line that is wrong, from 1, and what is wrong with it.
+    Refused { line: u32, why: Fault },
 }
 
 impl Status {
@@ -43,6 +47,7 @@ impl Status {
             Status::ReadFault => 5,
             Status::WriteFault => 6,
             Status::GaveUp => 7,
+            Status::Refused { .. } => 8,
         }
     }
 
@@ -74,6 +79,7 @@ impl Status {
             Status::ReadFault => line.push(b"read fault\n"),
             Status::WriteFault => line.push(b"write fault\n"),
             Status::GaveUp => line.push(b"gave up\n"),
+            Status::Refused { line: number, why } => push_refused(number, why, line),
         }
     }
 }
@@ -85,6 +91,16 @@ fn push_bad_script(number: u32, why: Why, line: &mut LineBuf)
     line.push(b"bad script line ");
     line.push_number(number);
     push_why(why, line);
+}
+
+fn push_refused(number: u32, why: Fault, line: &mut LineBuf)
+    requires { line.old ≡ [] }
+    ensures { line.new ≡ codes "refused line " ++ decimal number ++ codes ": " ++ fault_text why }
+{
+    line.push(b"refused line ");
+    line.push_number(number);
+    line.push(b": ");
+    push_fault(why, line);
 }
 
 fn push_why(why: Why, line: &mut LineBuf)

@@ -10,12 +10,14 @@ ghost use Rattle.session.specs.Shelves.{IsNamespaceOf};
 ghost use Rattle.engine.specs.Ended.{HasBroken, HasEnded, OnFailed, OnNoMemory, all_told};
 ghost use Rattle.engine.specs.Room.{IsRoom};
 ghost use Rattle.engine.specs.Built.{IsTaken, Spells};
+ghost use Rattle.engine.specs.Checked.{IsChecked};
 ghost use Rattle.engine.specs.Claims.{IsBadRun, IsBadScript, IsHostSize, IsLong, IsReadFault, IsRefusal, IsShown, IsUsage, IsWriteFault, OnEnded, OnRefused, OnWriteFault, is_gave_up};
 ghost use Rattle.engine.specs.Headline.{Began, HostsHold, Ran, whole_memory};
 ghost use Rattle.engine.specs.Sizes.{HaveSizes, sizes_of, first_difference};
-ghost use Rattle.engine.specs.Words.{IfRuns, IfShows};
+ghost use Rattle.engine.specs.Words.{IfChecks, IfRuns, IfShows, UnlessChecks};
 
 use crate::Status;
+use crate::checking::check_transcript;
 use crate::hosts::{give_back, host_difference, take_namespaces};
 use crate::reading::{read_script, unbuilt_line};
 use crate::room::{Room, make_room};
@@ -31,7 +33,8 @@ use std::alloc::Global;
 use std::thread::Threads;
 
 /// Does what the words say with the script in the input: `run serial BLOCKS SHELF` runs it over the hosts and writes the
-/// transcript, and `show` writes what it asks for and the Identify data that its guests see.
+/// transcript, `show` writes what it asks for and the Identify data that its guests see, and `check` judges a transcript
+/// that stands behind it.
 ///
 /// A run takes all its memory before its first line. Where nothing was run, nothing was written, and both hosts are as
 /// they were.
@@ -81,7 +84,10 @@ pub fn nvmigrate<R: Threads + Sync, S: Source, K: Sink, M: Medium + Send, G: Gat
     // The word `show`: the output took the script's plan, or a front of it, and neither host was touched.
     ensures shown { IfShows (map string_bytes words.now) (IsShown (S.left input.old) (K.bytes output.old) (K.bytes output.new) result) }
     ensures untouched { IfShows (map string_bytes words.now) ((from.new ≡ from.old) × (to.new ≡ to.old)) }
-    ensures too_long { IsLong (S.left input.old) result }
+    // The word `check`: the output took what is true of the transcript behind the script, and the answer says the same.
+    ensures checked { IfChecks (map string_bytes words.now) (IsChecked (S.left input.old) (K.bytes output.old) (K.bytes output.new) result) }
+    ensures kept { IfChecks (map string_bytes words.now) ((from.new ≡ from.old) × (to.new ≡ to.old)) }
+    ensures too_long { UnlessChecks (map string_bytes words.now) (IsLong (S.left input.old) result) }
     ensures host_size { IfRuns (map string_bytes words.now) (IsHostSize (S.left input.old) (sizes_in M.state from.old.shelves.items) (sizes_in M.state to.old.shelves.items) result) }
     ensures read_fault { IsReadFault (S.faults input.old) (S.faults input.new) result }
     ensures write_fault { IsWriteFault (K.faults output.old) (K.faults output.new) result }
@@ -89,6 +95,7 @@ pub fn nvmigrate<R: Threads + Sync, S: Source, K: Sink, M: Medium + Send, G: Gat
     match asked_form(words) {
         None => return Status::Usage,
         Some(Form::Show) => return show_script(alloc, input, output),
+        Some(Form::Check) => return check_transcript(alloc, input, output),
         Some(Form::RunSerial) => {}
     }
     let (script, room) = match prepare(alloc, input, from, to) {

@@ -1,6 +1,6 @@
 // The words of the command line.
 ghost use Rattle.std.specs.Prelude.{◌≡◌, ◌≢◌, ◌*◌, ◌^◌, ◌<◌, ◌≤◌, ℕ, [], true, false, map, length, slice_index_or, IfSome, IfNone, decimal, string_bytes};
-ghost use Rattle.engine.specs.Words.{IsRunSerial, IsShow, IsNoForm, HasForm, AreSizes};
+ghost use Rattle.engine.specs.Words.{IsCheck, IsRunSerial, IsShow, IsNoForm, HasForm, AreSizes};
 
 use itoa::Buffer;
 
@@ -9,6 +9,7 @@ use itoa::Buffer;
 pub(crate) enum Form {
     RunSerial,
     Show,
+    Check,
 }
 
 /// The form of the words; `None` for every list of words that is none.
@@ -18,6 +19,9 @@ pub(crate) fn asked_form(words: &[String]) -> Option<Form>
 {
     if is_show(words) {
         return Some(Form::Show);
+    }
+    if is_check(words) {
+        return Some(Form::Check);
     }
     match geometry(words) {
         Some(_) => Some(Form::RunSerial),
@@ -30,6 +34,13 @@ fn is_show(words: &[String]) -> bool
     ensures no { result ≡ false → IsShow (map string_bytes words.now) → ⊥ }
 {
     words.len() == 1 && is_word(word(words, 0), "show")
+}
+
+fn is_check(words: &[String]) -> bool
+    ensures yes { result ≡ true → IsCheck (map string_bytes words.now) }
+    ensures no { result ≡ false → IsCheck (map string_bytes words.now) → ⊥ }
+{
+    words.len() == 1 && is_word(word(words, 0), "check")
 }
 
 /// The blocks and the shelf of a form of words that runs a script; `None` for every other list of words.

@@ -13,6 +13,9 @@ nvmigrate run serial BLOCKS SHELF
 nvmigrate show
     reads a script from standard input, and writes what it asks for and the
     Identify data that its guests see. Nothing is run.
+nvmigrate check
+    reads a script and a transcript behind it from standard input, and judges
+    the transcript: `yes`, or `no LINE WHY` with its first line that is wrong.
 nvmigrate --help
     writes this text.
 nvmigrate --version
@@ -27,6 +30,7 @@ exit status
     5  a read of standard input failed
     6  a write of standard output failed
     7  the migration was given up where a medium failed, and the source went on
+    8  the transcript that was judged isn't right
 ";
 
 const VERSION: &str = "nvmigrate 0.1.0\n";
