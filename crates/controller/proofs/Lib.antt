@@ -1,3 +1,4 @@
+pub mod AdminLemmas
 pub mod LaneLemmas
 pub mod PlanLemmas
 pub mod StepLemmas
