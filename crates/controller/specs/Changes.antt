@@ -21,8 +21,9 @@ changed_count piece outcome = of piece.op
     of Compare = 0
     of Verify = 0
 
--- The change is posted where changes are logged, the queue is live and there is one; else nothing is done.
-abbrev pub Notes : Piece → PieceResult → ControllerState → ControllerState → Type 0
-Notes piece result old new = MatchBool (old.logging && old.queue.live && nat_lt 0 (changed_count piece result.outcome))
-    (Posted old.queue (record { span = record { first = piece.span.first; count = changed_count piece result.outcome } }) new.queue × (new ≡ record old { queue = new.queue }))
-    (new ≡ old)
+-- The change is posted where changes are logged, the queue is live and there is one; else the queue stays.
+pub record Notes (piece : Piece) (result : PieceResult) (old new : ControllerState) : Type 0 where
+  pub queue : MatchBool (old.logging && old.queue.live && nat_lt 0 (changed_count piece result.outcome))
+      (Posted old.queue (record { span = record { first = piece.span.first; count = changed_count piece result.outcome } }) new.queue)
+      (new.queue ≡ old.queue)
+  pub others : new ≡ record old { queue = new.queue }

@@ -274,7 +274,7 @@ left_at {s} {session} {left} is place d low =
     subst (λ (i : ℕ). slice_index_or left i 0 + length (slice_index_or session.lanes.items i d).results.items ≡ length (pieces_of session.plan (place + 1))) here (is.each (place + 1) d (omega arith) (omega (arith, low)))
 
 -- the plan of a session stays with its controller and its plan
-pub planned_same : {s : Script} {session new : Session} → new.controller ≡ session.controller → new.plan ≡ session.plan → ArePlanned s session → ArePlanned s new
+pub planned_same : {s : Script} {session new : Session} → new.controller.pairs ≡ session.controller.pairs → new.plan ≡ session.plan → ArePlanned s session → ArePlanned s new
 planned_same controller plan is = λ k low high.
     let old = is k low high in
     record { pieces = rw (controller, plan) old.pieces; told = rw controller old.told; checked = rw controller old.checked; few = rw controller old.few }

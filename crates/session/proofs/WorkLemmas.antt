@@ -186,7 +186,7 @@ stands_same {s} {session} {new} {windows} {lanes} runs controller is = record {
 
 -- a session after a result more stands for the lanes after it
 stands_after : {s : Script} {session new : Session} {windows : List WindowState} {lanes : List Lane} (place : ℕ) (new_window : WindowState) (new_here : Lane) →
-    place < s.head.lanes → length windows ≡ s.head.lanes → new.controller ≡ session.controller →
+    place < s.head.lanes → length windows ≡ s.head.lanes → new.controller.pairs ≡ session.controller.pairs →
     ((i : ℕ) (d : LaneRun) → (i ≡ place → ⊥) → slice_index_or new.lanes.items i d ≡ slice_index_or session.lanes.items i d) →
     ((d : LaneRun) → Stands s (place + 1) (slice_index_or new.lanes.items place d) (pair_of session.controller (place + 1)) new_window new_here) →
     StandsFor s session windows lanes → StandsFor s new (slice_set windows place new_window) (slice_set lanes place new_here)
@@ -238,7 +238,7 @@ piece_one s k place piece result blocks new_blocks lanes new at number low does 
 
 -- the next piece of the lane at a place was done
 pub piece_works : {s : Script} {session new : Session} {windows : List WindowState} {lanes : List Lane} (place : ℕ) (run : LaneRun) (window : WindowState) (piece : Piece) (result : PieceResult) (new_window : WindowState) (told : Option (List (List ℕ))) (faults : List ℕ) (new_told : Option (List (List ℕ))) (new_faults : List ℕ) (events new_events : List Line) →
-    new_events ≡ events ++ piece_event piece result ∷ [] → place < s.head.lanes → length windows ≡ s.head.lanes → new.controller ≡ session.controller →
+    new_events ≡ events ++ piece_event piece result ∷ [] → place < s.head.lanes → length windows ≡ s.head.lanes → new.controller.pairs ≡ session.controller.pairs →
     ((i : ℕ) (d : LaneRun) → (i ≡ place → ⊥) → slice_index_or new.lanes.items i d ≡ slice_index_or session.lanes.items i d) →
     ((d : LaneRun) → HasResult (slice_index_or session.lanes.items place d) result (slice_index_or new.lanes.items place d)) →
     ((d : LaneRun) → slice_index_or session.lanes.items place d ≡ run) →

@@ -74,9 +74,9 @@ pub record WorksOne (s : Script) (k : ℕ) (told : Option (List (List ℕ))) (fa
   pub causes : RiseBy (faults_shown (event ∷ [])) faults new_faults
   pub later : NeverFall faults new_faults
 
--- what stays while pieces are done
+-- what stays while pieces are done: of the controller all but the queue of changes
 pub record IsSamePlan (session new : Session) : Type 0 where
-  pub controller : new.controller ≡ session.controller
+  pub controller : new.controller ≡ record session.controller { queue = new.controller.queue }
   pub plan : new.plan ≡ session.plan
   pub order : new.order ≡ session.order
   pub capacity : vec_capacity new.events ≡ vec_capacity session.events

@@ -1,5 +1,6 @@
 use Rattle.std.proofs.Common.{◌≡◌, ◌+◌, ◌<◌, ℕ, List, length, map, refl, sym, ap, subst, ◌∙◌, arith}
 use Rattle.nvm_model.specs.Turn.{left_in, next_lane}
+use Rattle.controller.specs.Pair.{ControllerState}
 use Rattle.session.specs.declared.order.Order.{Order}
 use Rattle.session.specs.Lanes.{HasWords}
 use Rattle.session.proofs.OrderLemmas.{has_words, left_at, left_less, planned_same, sum_less, sum_none, words_of, works_more, works_none, works_to}
@@ -47,7 +48,7 @@ pieces-preserved g c =
           let drawn : HasWords s (m + 1) c.pick.new.self = has_words s (m + 1) c.pick.new.self (c.in-Some.ensures.mix ∙ now.session.mix) (c.in-Some.ensures.words m had) in
           works_more x next (subst (λ (o : Order). HasWords s (m + 1) o) (sym same.order) drawn) (c.do_piece.ensures.works x.new (stands_same refl refl x.stands));
       session = c.do_piece.ensures.session;
-      planned = planned_same same.controller same.plan now.planned;
+      planned = planned_same (ap (λ (c : ControllerState). c.pairs) same.controller) same.plan now.planned;
       left = left_less place low there.1 same.plan c.do_piece.ensures.done c.do_piece.ensures.others now.left;
       windows = c.do_piece.ensures.windows;
       namespace = same_more now.namespace c.do_piece.ensures.namespace;

@@ -8,6 +8,7 @@ use Rattle.nvm_blocks.specs.Namespace.{IsForNamespace, entries_of, faults_of, me
 use Rattle.nvm_blocks.proofs.NamespaceLaws.{applied_counts, applied_told}
 use Rattle.nvm_blocks.proofs.ShelvesLemmas.{cleared_entries, cleared_media}
 use Rattle.guest_ram.specs.Window.{WindowState, data_pages, no_window}
+use Rattle.controller.specs.Pair.{ControllerState}
 use Rattle.session.proofs.PieceLemmas.{entry_fits, for_namespace}
 use Rattle.session.proofs.ShelvesLemmas.{called_same, cleared_shelves, same_more, same_namespace}
 use Rattle.session.proofs.WorkLemmas.{element_at, next_at, none_in_empty, part_at, piece_works, pieces_fit, session_after, still_works}
@@ -31,7 +32,7 @@ serve_serial-done-requires-clause-piece g c =
     ap (λ (i : ℕ). get_or c.args.windows.now i no_window) here ∙ get_or_default c.args.windows.now place no_window c.index-windows-place.result (omega (arith, c.requires.there, c.requires.windows.count)) in
     let size : length window.pages ≡ (set_of s.head (place + 1)).pages + 2 = subst (λ (w : WindowState). length w.pages ≡ (set_of s.head (place + 1)).pages + 2) same there.size in
     let pages : (set_of s.head (place + 1)).pages ≡ length (data_pages window) = omega (arith, size, length-drop 2 window.pages) in
-    subst (λ (n : ℕ). IsForNamespace c.clear.new.self n piece) pages (for_namespace part is)
+    (subst (λ (n : ℕ). IsForNamespace c.clear.new.self n piece) pages (for_namespace part is), omega (arith, part.some, part.within, c.requires.head.blocks.1))
 
 pub serve_serial-done-requires-clause-room : goal.serve_serial-done-requires-clause-room
 serve_serial-done-requires-clause-room g c =
@@ -72,7 +73,7 @@ returns-clause-works g c = λ lanes stands.
     (piece_works place run window piece done c.serve_serial-done.new.w
     (told_of state c.clear.new.self) (faults_of state c.clear.new.self) (told_of state new) (faults_of state new) session.events.items c.push_reserved.new.self.items
     (◌∙◌ {A = List Line} c.push_reserved.ensures.items (ap {B = List Line} (λ (e : Line). session.events.items ++ e ∷ []) c.piece_line.ensures))
-    low c.requires.windows.count c.serve_serial-done.ensures.same c.push_result.ensures.others c.push_result.ensures.here
+    low c.requires.windows.count (ap (λ (t : ControllerState). t.pairs) c.serve_serial-done.ensures.noted.others) c.push_result.ensures.others c.push_result.ensures.here
     (λ e. get_or_default session.lanes.items place e d (omega (arith, low, c.requires.session.count)))
     (get_or_default c.args.windows.now place no_window c.index-windows-place.result (omega (arith, low, c.requires.windows.count)))
     c.serve_serial-done.ensures.window
@@ -82,7 +83,7 @@ returns-clause-works g c = λ lanes stands.
 pub returns-clause-session : goal.returns-clause-session
 returns-clause-session g c =
     session_after c.args.place c.serve_serial-done.result c.requires.session
-    (record { controller = c.serve_serial-done.ensures.same; plan = refl; order = refl; capacity = c.push_reserved.ensures.capacity; lanes = c.push_result.ensures.count })
+    (record { controller = c.serve_serial-done.ensures.noted.others; plan = refl; order = refl; capacity = c.push_reserved.ensures.capacity; lanes = c.push_result.ensures.count })
     c.push_result.ensures.others c.push_result.ensures.here
 
 pub returns-clause-namespace : goal.returns-clause-namespace
