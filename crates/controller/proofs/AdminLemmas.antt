@@ -1,19 +1,26 @@
 -- The state of a controller as an image, and back.
-use Rattle.std.proofs.Common.{Bool, Result, Ok, Err, ◌≡◌, ◌≤◌, ◌<◌, ◌+◌, ◌-◌, ◌*◌, ℕ, zero, suc, All, List, [], ◌∷◌, ◌++◌, append_assoc, length, map, min, take, drop, replicate, slice_index_or, slice_set, refl, sym, ap, ◌∙◌, subst, arith}
+use Rattle.std.proofs.Common.{not, ◌&&◌, ◌==◌, true, false, Option, Some, None, Bool, Result, Ok, Err, ◌≡◌, ◌≤◌, ◌<◌, ◌+◌, ◌-◌, ◌*◌, ℕ, zero, suc, All, List, [], ◌∷◌, ◌++◌, append_assoc, length, map, min, take, drop, replicate, slice_index_or, slice_set, refl, sym, ap, ◌∙◌, subst, arith}
 use Rattle.std.proofs.Math.Seq.{set-append_seam}
 use Rattle.std.proofs.lemmas.List.{drop-append-le, length-drop, length-map, length-take-le, map-append, take_at, take_more}
 use Rattle.std.proofs.lemmas.Bool.{le-leb}
 use Rattle.std.proofs.lemmas.List.Elements.{All-push}
 use Rattle.std.specs.Bool.{MatchBool}
+use Rattle.adm_values.specs.declared.command.AdminCmd.{AdminCmd}
+use Rattle.adm_values.specs.declared.command.What.{What}
+use Rattle.adm_values.specs.declared.command.What.TheVariants as what
+use Rattle.adm_values.specs.Command.{IsCommand, command_bytes}
+use Rattle.adm_values.proofs.CommandLemmas.{same_command}
+use Rattle.ctl_state.specs.declared.parts.PartRefusal.{PartRefusal}
 use Rattle.ctl_state.specs.declared.image.Image.{Image}
 use Rattle.ctl_state.specs.declared.image.PairState.{PairState as PairImage}
 use Rattle.ctl_state.specs.Image.{IsImage, IsPair, header, image_bytes, none, pairs_bytes, pairs_of}
 use Rattle.ctl_state.specs.Parts.{image_size}
 use Rattle.ctl_state.proofs.ImageLemmas.{whole_size}
-use Rattle.controller.specs.declared.controller.Phase.TheVariants.{Suspended}
+use Rattle.controller.specs.declared.controller.Phase.{Phase}
+use Rattle.controller.specs.declared.controller.Phase.TheVariants.{Running, Suspended, Loading}
 use Rattle.controller.specs.declared.refusal.Refusal.{Refusal}
-use Rattle.controller.specs.declared.refusal.Refusal.TheVariants.{InvalidField}
-use Rattle.controller.specs.Admin.{Gets, given, image_of, state_bytes, with_images, with_rings}
+use Rattle.controller.specs.declared.refusal.Refusal.TheVariants.{IsSuspended, NotSuspended, BadDataQueue, DataQueueFull, BadSequence, InvalidField, InvalidOpcode}
+use Rattle.controller.specs.Admin.{Becomes, Does, FitsBuffer, Gets, GoesOnWith, HasLength, IsCreated, IsKept, Logs, Refuses, Resumes, Sets, Suspends, TakesPart, given, image_of, is_queue, state_bytes, with_images, with_rings}
 use Rattle.controller.specs.Pair.{ControllerState, PairState}
 
 -- A pair more goes on with the rings of an image.
@@ -87,3 +94,80 @@ gets_part c offset n size image rest out bytes new is rings made long fits count
     subst (λ (b : Bool). MatchBool b ((answered ≡ wanted) × (new ≡ take (given offset (length bytes) c) (drop offset (state_bytes c)) ++ drop (given offset (length bytes) c) bytes)) ((answered ≡ refused) × (new ≡ bytes)))
     (sym (le-leb offset (image_size (length c.pairs)) (omega (arith, fits, size_is))))
     (same, part.1 ∙ ap (λ m. take m (drop offset (state_bytes c)) ++ drop m bytes) n_is)
+
+-- What every command keeps.
+
+pub between_kept : (images : List PairImage) (pairs : List PairState) → All (λ p. p.commands ≡ []) pairs → All (λ p. p.commands ≡ []) (with_images images pairs)
+between_kept [] pairs all k d there = all k d there
+between_kept (image ∷ images) [] all k d there = all k d there
+between_kept (image ∷ images) (pair ∷ pairs) all zero d there = all 0 pair (omega arith)
+between_kept (image ∷ images) (pair ∷ pairs) all (suc k) d there = between_kept images pairs (λ i e below. all (suc i) e (omega arith)) k d (omega arith)
+
+-- the pairs are the same, or others with as many
+same_pairs : (old new : ControllerState) → All (λ p. p.commands ≡ []) old.pairs → new.pairs ≡ old.pairs → new.burst ≡ old.burst → IsKept old new
+same_pairs old new between pairs burst = record { count = ap length pairs; burst_is = burst; between = subst (λ (ps : List PairState). All (λ p. p.commands ≡ []) ps) (sym pairs) between }
+
+becomes : (old after new : ControllerState) (result : Result ℕ Refusal) → All (λ p. p.commands ≡ []) old.pairs → after.pairs ≡ old.pairs → after.burst ≡ old.burst → Becomes after result new → IsKept old new
+becomes old after new result between pairs burst is = same_pairs old new between (ap (λ (c : ControllerState). c.pairs) is.1 ∙ pairs) (ap (λ (c : ControllerState). c.burst) is.1 ∙ burst)
+
+refused : (old new : ControllerState) (refusal : Refusal) (result : Result ℕ Refusal) → All (λ p. p.commands ≡ []) old.pairs → Refuses refusal old result new → IsKept old new
+refused old new refusal result between is = same_pairs old new between (ap (λ (c : ControllerState). c.pairs) is.1) (ap (λ (c : ControllerState). c.burst) is.1)
+
+suspended : (phase : Phase) (old new : ControllerState) (result : Result ℕ Refusal) → All (λ p. p.commands ≡ []) old.pairs → Suspends phase old result new → IsKept old new
+suspended Running old new result between is = becomes old _ new result between refl refl is
+suspended Suspended old new result between is = refused old new IsSuspended result between is
+suspended Loading old new result between is = refused old new IsSuspended result between is
+
+went_on : (image : Option Image) (old new : ControllerState) (result : Result ℕ Refusal) → All (λ p. p.commands ≡ []) old.pairs → GoesOnWith old image result new → IsKept old new
+went_on None old new result between is = refused old new BadSequence result between is.1
+went_on (Some image) old new result between is =
+    let pairs : new.pairs ≡ with_images (pairs_of image) old.pairs = ap (λ (c : ControllerState). c.pairs) is.1.1 in
+    record {
+      count = ap length pairs ∙ length-with_images (pairs_of image) old.pairs;
+      burst_is = ap (λ (c : ControllerState). c.burst) is.1.1;
+      between = subst (λ (ps : List PairState). All (λ p. p.commands ≡ []) ps) (sym pairs) (between_kept (pairs_of image) old.pairs between);
+    }
+
+resumed : (phase : Phase) (old new : ControllerState) (result : Result ℕ Refusal) → All (λ p. p.commands ≡ []) old.pairs → Resumes phase old result new → IsKept old new
+resumed Running old new result between is = refused old new NotSuspended result between is
+resumed Suspended old new result between is = becomes old _ new result between refl refl is
+resumed Loading old new result between is = went_on is.0 old new result between is.1
+
+fed_part : (fed : Result (Unit {0}) PartRefusal) (old new : ControllerState) (result : Result ℕ Refusal) → All (λ p. p.commands ≡ []) old.pairs → TakesPart fed old result new → IsKept old new
+fed_part (Ok x) old new result between is = becomes old _ new result between refl refl is
+fed_part (Err refusal) old new result between is = same_pairs old new between (ap (λ (c : ControllerState). c.pairs) is.1) (ap (λ (c : ControllerState). c.burst) is.1)
+
+state_set : (phase : Phase) (offset : ℕ) (bytes : List ℕ) (old new : ControllerState) (result : Result ℕ Refusal) → All (λ p. p.commands ≡ []) old.pairs → Sets phase offset bytes old result new → IsKept old new
+state_set Running offset bytes old new result between is = refused old new NotSuspended result between is
+state_set Suspended offset bytes old new result between is = fed_part is.0 old new result between is.2
+state_set Loading offset bytes old new result between is = fed_part is.0 old new result between is.2
+
+either : (b : Bool) (P Q R : Type 0) → (P → R) → (Q → R) → MatchBool b P Q → R
+either true P Q R first second is = first is
+either false P Q R first second is = second is
+
+logged : (start : Bool) (number : ℕ) (old new : ControllerState) (result : Result ℕ Refusal) → All (λ p. p.commands ≡ []) old.pairs → Logs start number old result new → IsKept old new
+logged false number old new result between is = becomes old _ new result between refl refl is
+logged true number old new result between is =
+    either (is_queue number old) _ _ (IsKept old new)
+    (either old.queue.marked _ _ (IsKept old new) (refused old new DataQueueFull result between) (becomes old (record old { logging = true }) new result between refl refl))
+    (refused old new BadDataQueue result between) is
+
+pub did : (w : What) (old new : ControllerState) (result : Result ℕ Refusal) (bytes new_bytes : List ℕ) → All (λ p. p.commands ≡ []) old.pairs → Does w old bytes result new new_bytes → IsKept old new
+did (what.LogUserData start queue) old new result bytes new_bytes between is = logged start queue old new result between is.0
+did (what.TrackMemory start) old new result bytes new_bytes between is = refused old new InvalidOpcode result between is.0
+did (what.MemoryChanges max) old new result bytes new_bytes between is = refused old new InvalidOpcode result between is.0
+did what.Suspend old new result bytes new_bytes between is = suspended old.phase old new result between is.0
+did what.Resume old new result bytes new_bytes between is = resumed old.phase old new result between is.0
+did (what.SetState offset size) old new result bytes new_bytes between is = state_set old.phase offset bytes old new result between is.0
+did (what.GetState offset size) old new result bytes new_bytes between is = same_pairs old new between (ap (λ (c : ControllerState). c.pairs) is.1) (ap (λ (c : ControllerState). c.burst) is.1)
+did (what.CreateQueue cells) old new result bytes new_bytes between is =
+    either (not old.queue.live && (cells == length old.queue.cells)) _ _ (IsKept old new)
+    (λ (made : (result ≡ Ok 0) × IsCreated old new). same_pairs old new between (ap (λ (c : ControllerState). c.pairs) made.1.others) (ap (λ (c : ControllerState). c.burst) made.1.others))
+    (refused old new BadDataQueue result between) is.0
+did (what.DeleteQueue queue) old new result bytes new_bytes between is =
+    either (is_queue queue old) _ _ (IsKept old new) (becomes old (record old { queue = record old.queue { live = false }; logging = false }) new result between refl refl) (refused old new BadDataQueue result between) is.0
+
+-- A command's own bytes need the buffer that the command names.
+pub fits_buffer : (c : AdminCmd) (n : ℕ) → IsCommand c → HasLength c.what n → FitsBuffer (command_bytes c) n
+fits_buffer c n is has = λ other other_is bytes. subst (λ (x : AdminCmd). HasLength x.what n) (sym (same_command other c other_is is bytes)) has

@@ -1,4 +1,4 @@
-use Rattle.std.specs.Prelude.{◌≡◌, ℕ, ◌-◌, ◌*◌, ◌==◌, ◌&&◌, Bool, true, false, not, nat_le, min, List, [], ◌∷◌, ◌++◌, Option, Some, None, Result, Ok, Err, length, map, take, drop}
+use Rattle.std.specs.Prelude.{◌≡◌, ℕ, ◌-◌, ◌*◌, ◌==◌, ◌&&◌, All, Bool, true, false, not, nat_le, min, List, [], ◌∷◌, ◌++◌, Option, Some, None, Result, Ok, Err, length, map, take, drop}
 use Rattle.std.specs.Bool.{MatchBool}
 use Rattle.adm_values.specs.declared.command.AdminCmd.{AdminCmd}
 use Rattle.adm_values.specs.declared.command.AdminCpl.{AdminCpl}
@@ -174,3 +174,9 @@ HasLength (what.DeleteQueue queue) n = Unit {0}
 
 abbrev pub FitsBuffer : List ℕ → ℕ → Type 0
 FitsBuffer cmd n = (command : AdminCmd) → IsCommand command → command_bytes command ≡ cmd → HasLength command.what n
+
+-- what every command keeps: as many pairs, the burst, and that no command is fetched
+pub record IsKept (old new : ControllerState) : Type 0 where
+  pub count : length new.pairs ≡ length old.pairs
+  pub burst_is : new.burst ≡ old.burst
+  pub between : All (λ p. p.commands ≡ []) new.pairs

@@ -3,7 +3,7 @@ ghost use Rattle.std.specs.Prelude.{◌≡◌, ◌≤◌, ◌++◌, All, [], Opt
 ghost use Rattle.adm_values.specs.Command.{IsInRange};
 ghost use Rattle.ctl_state.specs.declared.image.Image.{Image as TheImage};
 ghost use Rattle.ctl_state.specs.Image.{IsImage, pairs_of};
-ghost use Rattle.controller.specs.Admin.{Answers, Creates, Deletes, Does, FitsBuffer, Gets, GoesOnWith, HasLength, Logs, Resumes, Sets, Suspends, image_of, is_queue, with_images};
+ghost use Rattle.controller.specs.Admin.{Answers, Creates, Deletes, Does, FitsBuffer, Gets, GoesOnWith, HasLength, IsKept, Logs, Resumes, Sets, Suspends, image_of, is_queue, with_images};
 
 use crate::controller::{Controller, Phase};
 use crate::pair::Pair;
@@ -27,6 +27,7 @@ impl Controller {
         requires between { All (λ p. p.commands ≡ []) self.old.pairs }
         requires buffer { FitsBuffer cmd.now (length bytes.old) }
         ensures answers { Answers cmd.now self.old bytes.old result self.new bytes.new }
+        ensures kept { IsKept self.old self.new }
         ensures memory { ram.new ≡ ram.old }
     {
         let _memory = ram;
