@@ -266,3 +266,17 @@ own_value c read kind b found is bytes cid_is what_is =
     let cid : read.cid ≡ c.cid = cid_is ∙ ap (λ (e : Sqe). e.cid) entry in
     let what : read.what ≡ c.what = what_is ∙ (λ k. what_of (kind_same k) (entry k).cdw11 (entry k).cdw12) ∙ what_of-dwords c.what in
     λ k. record { cid = cid k; what = what k }
+
+-- So no two commands have the same bytes.
+pub same_command : (a b : AdminCmd) → IsCommand a → IsCommand b → command_bytes a ≡ command_bytes b → a ≡ b
+same_command a b a_is b_is bytes =
+    own_value b a (kind_of a.what) (command_bytes a) (own_kind a (command_bytes a) a_is refl) b_is (sym bytes) (own_cid a a_is) (own_what a a_is)
+  where
+    entry : (c : AdminCmd) → IsCommand c → sqe_of (command_bytes c) ≡ entry_of c
+    entry c is = sqe_of-sqe_bytes (entry_of c) (entry_is c is)
+
+    own_cid : (c : AdminCmd) → IsCommand c → c.cid ≡ number_at w16 2 (command_bytes c)
+    own_cid c is = sym (ap (λ (e : Sqe). e.cid) (entry c is))
+
+    own_what : (c : AdminCmd) → IsCommand c → c.what ≡ what_of (kind_of c.what) (dword_at (command_bytes c) 11) (dword_at (command_bytes c) 12)
+    own_what c is = sym (what_of-dwords c.what) ∙ (λ k. what_of (kind_of c.what) (sym (entry c is) k).cdw11 (sym (entry c is) k).cdw12)

@@ -1,3 +1,4 @@
+pub mod AdminLemmas
 pub mod LaneLemmas
 pub mod NextLemmas
 pub mod PlanLemmas

@@ -1,2 +1,4 @@
+pub mod Admin
+pub mod Changes
 pub mod Pair
 pub mod Parts

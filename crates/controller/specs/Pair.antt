@@ -1,4 +1,4 @@
-use Rattle.std.specs.Prelude.{◌≡◌, ◌≢◌, ◌⊎◌, ℕ, ◌+◌, ◌-◌, ◌*◌, ◌<◌, ◌≤◌, false, true, All, List, [], ◌∷◌, ◌++◌, Option, Some, None, Result, IfErr, IfOk, IsTrue, MatchResult, length, map, slice_index_or, slice_set, drop, take}
+use Rattle.std.specs.Prelude.{◌≡◌, ◌≢◌, ◌⊎◌, Bool, ℕ, ◌+◌, ◌-◌, ◌*◌, ◌<◌, ◌≤◌, false, true, All, List, [], ◌∷◌, ◌++◌, Option, Some, None, Result, IfErr, IfOk, IsTrue, MatchResult, length, map, slice_index_or, slice_set, drop, take}
 use Rattle.std.specs.List.{flat_map, range_with_len}
 use Rattle.nvm_values.specs.declared.op.Op.TheVariants.{Flush}
 use Rattle.nvm_values.specs.declared.sqe.Sqe.{Sqe}
@@ -31,6 +31,8 @@ use Rattle.nvm_cmd.specs.Answer.{job_of}
 use Rattle.nvm_cmd.specs.Cut.{piece_of}
 use Rattle.hall.specs.Plan.{PlanState, pieces_of}
 use Rattle.guest_ram.specs.Window.{WindowState, ctrl_written, data_pages}
+use Rattle.ctl_state.specs.Parts.{PartsState}
+use Rattle.data_queue.specs.Log.{QueueState}
 use Rattle.controller.specs.declared.controller.Phase.{Phase}
 
 -- The controller's part of a queue pair: its ends of the two rings, the commands that were fetched in this turn as they
@@ -43,11 +45,15 @@ pub record PairState : Type 0 where
   pub posted : List (ℕ × StatusPair)
   pub room : ℕ
 
--- a controller: its queue pairs, that of lane 1 first, and the most fetches of a lane in a turn
+-- A controller: its queue pairs, that of lane 1 first, the most fetches of a lane in a turn, the queue in which it tells
+-- changes of user data and whether it tells them, and what it was fed of a state.
 pub record ControllerState : Type 0 where
   pub pairs : List PairState
   pub burst : ℕ
   pub phase : Phase
+  pub queue : QueueState
+  pub logging : Bool
+  pub fed : PartsState
 
 -- what a look-up past the last pair gives
 abbrev pub no_pair : PairState
@@ -79,6 +85,16 @@ new_pair room set = record no_pair {
   cq = record { ring = record { size = set.cq; head = 0; tail = 0 }; phase = true };
   room = room;
 }
+
+-- a new controller in that phase, with empty rings, no change queue and nothing fed
+pub record IsMade (phase : Phase) (sets : List LaneSet) (cells burst : ℕ) (c : ControllerState) : Type 0 where
+  pub pairs : c.pairs ≡ map (new_pair burst) sets
+  pub burst_is : c.burst ≡ burst
+  pub phase_is : c.phase ≡ phase
+  pub cells_are : length c.queue.cells ≡ cells
+  pub not_live : c.queue.live ≡ false
+  pub not_logging : c.logging ≡ false
+  pub none_fed : c.fed ≡ record { lanes = length sets; bytes = [] }
 
 -- The pieces of fetched commands.
 

@@ -1,25 +1,29 @@
-ghost use Rattle.std.specs.Prelude.{◌≡◌, ◌+◌, ◌*◌, ◌/◌, ◌≤◌, IfOk, All, length, map, sum};
+ghost use Rattle.std.specs.Prelude.{◌≡◌, ◌+◌, ◌*◌, ◌/◌, ◌≤◌, ◌<◌, IfOk, All, length, map, sum};
 ghost use Rattle.nvm_values.specs.declared.op.Op.TheVariants.{Flush, Read};
 ghost use Rattle.nvm_model.specs.ScriptText.{IsSet};
 ghost use Rattle.guest_ram.specs.Window.{data_pages};
 ghost use Rattle.hall.specs.Plan.{pieces_of};
 ghost use Rattle.nvm_blocks.specs.Namespace.{HasAppliedIn, HasRoom, IsForNamespace, entries_of, with_entry};
 ghost use Rattle.nvm_blocks.specs.Work.{IsSameButData};
-ghost use Rattle.controller.specs.declared.controller.Phase.TheVariants.{Running};
-ghost use Rattle.controller.specs.Pair.{AtLane, FetchesLane, FetchesTurn, PostsLane, PostsTurn, RingsCq, RingsReaped, RingsSq, new_pair, pair_of};
+ghost use Rattle.controller.specs.declared.controller.Phase.TheVariants.{Running, Loading};
+ghost use Rattle.controller.specs.Pair.{AtLane, FetchesLane, FetchesTurn, IsMade, PostsLane, PostsTurn, RingsCq, RingsReaped, RingsSq, pair_of};
+ghost use Rattle.controller.specs.Changes.{Notes, changed_count};
 
 use crate::PairSet;
 use crate::pair::Pair;
+use ctl_state::Parts;
+use data_queue::{Change, DataQueue};
 use guest_ram::Window;
 use hall::Plan;
-use mig_base::{LaneNo, OutOfMemory};
+use mig_base::{LaneNo, OutOfMemory, Span};
 use mig_medium::Medium;
 use nvm_blocks::Namespace;
-use nvm_model::{Piece, PieceResult};
+use nvm_model::{Outcome, Piece, PieceResult};
 use nvm_ring::BadDoorbell;
-use nvm_values::Status;
+use nvm_values::{Op, Status};
 use std::alloc::Global;
 use std::marker::Model;
+use track::Tracker;
 
 /// What a controller does.
 #[derive(Clone, Copy, Debug, PartialEq, Eq)]
@@ -36,25 +40,38 @@ pub enum Phase {
 #[derive(Drop)]
 pub struct Controller {
     // That of lane 1 first.
-    pairs: Vec<Pair>,
+    pub(crate) pairs: Vec<Pair>,
     burst: u32,
-    phase: Phase,
+    pub(crate) phase: Phase,
+    // Where changes of user data are told, and whether they are.
+    pub(crate) queue: DataQueue,
+    pub(crate) tracker: Tracker,
+    // What was fed of a state.
+    pub(crate) parts: Parts,
 }
 
 impl Model for Controller {
-    ghost use Rattle.std.specs.Prelude.{◌≡◌, ◌≤◌, All};
+    ghost use Rattle.std.specs.Prelude.{◌≡◌, ◌≤◌, All, length};
     ghost use Rattle.controller.specs.Pair.{ControllerState};
 
     ghost Value = { ControllerState };
 
-    ghost view = { λ c. record { pairs = c.pairs.items; burst = c.burst; phase = c.phase } };
+    ghost view = { λ c. record {
+      pairs = c.pairs.items;
+      burst = c.burst;
+      phase = c.phase;
+      queue = c.queue;
+      logging = c.tracker;
+      fed = c.parts;
+    } };
 
-    ghost invariant = { λ c. All (λ p. p.room ≡ c.burst) c.pairs.items × (c.burst ≤ 64) };
+    ghost invariant = { λ c. All (λ p. p.room ≡ c.burst) c.pairs.items × (c.burst ≤ 64)
+        × (1 ≤ length c.pairs.items) × (length c.pairs.items ≤ 8) × (c.parts.lanes ≡ length c.pairs.items) };
 }
 
 impl Controller {
     /// A running controller of from 1 to 8 queue pairs, that of lane 1 first, with empty rings. It fetches at most `burst`
-    /// commands of a lane in a turn. `cells` is the size of the change queues that it may be asked for.
+    /// commands of a lane in a turn. `cells`, from 2 to 65,536, is the size of its change queue.
     ///
     /// # Errors
     ///
@@ -65,21 +82,31 @@ impl Controller {
         cells: u32,
         burst: u32,
     ) -> Result<Controller, OutOfMemory>
-        requires pairs { (1 ≤ length pairs.now) × (length pairs.now ≤ 8) }
-        requires sets { All IsSet pairs.now }
+        requires pairs { (1 ≤ length pairs.now) × (length pairs.now ≤ 8) × All IsSet pairs.now }
+        requires cells { (2 ≤ cells) × (cells ≤ 65536) }
         requires burst { (1 ≤ burst) × (burst ≤ 64) }
-        ensures made { IfOk result
-            (λ c. c ≡ record { pairs = map (new_pair burst) pairs.now; burst = burst; phase = Running }) }
+        ensures made { IfOk result (IsMade Running pairs.now cells burst) }
     {
-        let mut all = Vec::with_capacity(alloc, pairs.len())?;
-        'pairs: for set in pairs {
-            all.push_reserved(Pair::make(alloc, set, burst)?);
-        }
-        Ok(Controller {
-            pairs: all,
-            burst,
-            phase: Phase::Running,
-        })
+        make_in(alloc, Phase::Running, pairs, cells, burst)
+    }
+
+    /// The same of a controller that takes another's state, of which nothing is fed.
+    ///
+    /// # Errors
+    ///
+    /// `OutOfMemory` where there is no memory for it.
+    pub fn blank(
+        alloc: Global,
+        pairs: &[PairSet],
+        cells: u32,
+        burst: u32,
+    ) -> Result<Controller, OutOfMemory>
+        requires pairs { (1 ≤ length pairs.now) × (length pairs.now ≤ 8) × All IsSet pairs.now }
+        requires cells { (2 ≤ cells) × (cells ≤ 65536) }
+        requires burst { (1 ≤ burst) × (burst ≤ 64) }
+        ensures made { IfOk result (IsMade Loading pairs.now cells burst) }
+    {
+        make_in(alloc, Phase::Loading, pairs, cells, burst)
     }
 
     /// What it does.
@@ -153,16 +180,33 @@ impl Controller {
         namespace: &mut Namespace<M>,
         w: &mut Window,
     ) -> PieceResult
-        requires piece { IsForNamespace namespace.old (length (data_pages w.old)) p.now }
+        requires piece { IsForNamespace namespace.old (length (data_pages w.old)) p.now × (p.now.span.first < 131072) }
         requires room { HasRoom namespace.old (p.now.span.first / namespace.old.shelf) }
         ensures applied { HasAppliedIn M.state M.moves p.now result namespace.old (data_pages w.old) namespace.new (data_pages w.new) }
         ensures entry { entries_of namespace.new ≡ with_entry (p.now.span.first / namespace.old.shelf)
             (record { lane = p.now.lane; index = index; ticket = ticket; result = result }) (entries_of namespace.old) }
         ensures window { IsSameButData w.old w.new }
         ensures kept { (p.now.op ≡ Read → ⊥) → w.new ≡ w.old }
-        ensures same { self.new ≡ self.old }
+        ensures noted { Notes p.now result self.old self.new }
     {
-        namespace.apply(p, index, ticket, w)
+        let done = namespace.apply(p, index, ticket, w);
+        self.note(p, &done);
+        done
+    }
+
+    /// Notes the blocks that a piece changed.
+    fn note(&mut self, p: &Piece, done: &PieceResult)
+        requires { (p.now.span.first < 131072) × (changed_count p.now done.now.outcome ≤ 64) }
+        ensures { Notes p.now done.now self.old self.new }
+    {
+        let count = changed_count(p, done.outcome);
+        if count > 0 {
+            let span = Span {
+                first: p.span.first,
+                count,
+            };
+            self.tracker.note(Change { span }, &mut self.queue);
+        }
     }
 
     /// Posts the completions of a lane's fetched commands. `results` has one result for each piece of the lane's plan, in
@@ -185,5 +229,43 @@ impl Controller {
         ensures { result.now ≡ (pair_of self.now lane).posted }
     {
         self.pairs[usize::from(lane.get()) - 1].posted()
+    }
+}
+
+/// A controller in that phase, with empty rings and no change queue.
+fn make_in(
+    alloc: Global,
+    phase: Phase,
+    pairs: &[PairSet],
+    cells: u32,
+    burst: u32,
+) -> Result<Controller, OutOfMemory>
+    requires pairs { (1 ≤ length pairs.now) × (length pairs.now ≤ 8) × All IsSet pairs.now }
+    requires cells { (2 ≤ cells) × (cells ≤ 65536) }
+    requires burst { burst ≤ 64 }
+    ensures { IfOk result (IsMade phase pairs.now cells burst) }
+{
+    let mut all = Vec::with_capacity(alloc, pairs.len())?;
+    'pairs: for set in pairs {
+        all.push_reserved(Pair::make(alloc, set, burst)?);
+    }
+    Ok(Controller {
+        pairs: all,
+        burst,
+        phase,
+        queue: DataQueue::make(alloc, cells)?,
+        tracker: Tracker::new(),
+        parts: Parts::new(pairs.len() as u8),
+    })
+}
+
+/// How many blocks a piece changed, from its first on: those that a Write or a Write Zeroes did.
+fn changed_count(p: &Piece, outcome: Outcome) -> u32
+    ensures { result ≡ changed_count p.now outcome }
+{
+    match (p.op, outcome) {
+        (Op::Write | Op::WriteZeroes, Outcome::Done) => p.span.count,
+        (Op::Write | Op::WriteZeroes, Outcome::Faulted { at } | Outcome::Differs { at }) => at,
+        _ => 0,
     }
 }

@@ -2,9 +2,11 @@
 //! the model, and the fetches and the posts of a lane's turn are those of the model, which the controller tells.
 #![tactic(auto)]
 
+mod admin;
 mod check;
 mod controller;
 mod pair;
+mod refusal;
 
 pub use controller::{Controller, Phase};
 pub use nvm_model::LaneSet as PairSet;

@@ -1,5 +1,5 @@
 // A queue pair's part of a turn: it fetches and posts.
-ghost use Rattle.std.specs.Prelude.{◌≡◌, ℕ, ◌+◌, ◌*◌, ◌^◌, ◌<◌, ◌≤◌, IfOk, drop, length, map, slice_index_or, sum};
+ghost use Rattle.std.specs.Prelude.{◌≡◌, [], ℕ, ◌+◌, ◌*◌, ◌^◌, ◌<◌, ◌≤◌, IfOk, drop, length, map, slice_index_or, sum};
 ghost use Rattle.std.specs.List.{range_with_len};
 ghost use Rattle.nvm_values.specs.Cqe.{cqe_bytes};
 ghost use Rattle.nvm_values.specs.Status.{StatusPair};
@@ -11,10 +11,13 @@ ghost use Rattle.nvm_ring.specs.Moves.{IsReadBack, after_post, with_phase};
 ghost use Rattle.nvm_cmd.specs.Cut.{piece_of};
 ghost use Rattle.hall.specs.Plan.{pieces_of};
 ghost use Rattle.controller.specs.Pair.{FetchesLane, FetchesTurn, IsFetched, PostsLane, PostsTurn, RingsCq, RingsReaped, RingsSq, command_pieces, free_places, new_pair, outcomes_of, with_pieces};
+ghost use Rattle.ctl_state.specs.Image.{IsPair as IsPairImage};
+ghost use Rattle.controller.specs.Admin.{image_of, with_rings};
 ghost use Rattle.controller.specs.Parts.{TakesEntry, joined};
 
 use crate::PairSet;
 use crate::check::check;
+use ctl_state::PairState as PairImage;
 use guest_ram::Window;
 use hall::Plan;
 use mig_base::{LaneNo, OutOfMemory};
@@ -84,6 +87,28 @@ impl Pair {
             posted: Vec::with_capacity(alloc, room as usize)?,
             room,
         })
+    }
+
+    /// Its rings, as an image has them.
+    pub(crate) fn image(&self) -> PairImage
+        ensures rings { result ≡ image_of self.now }
+        ensures sound { IsPairImage result }
+    {
+        PairImage {
+            sq: self.sq.state(),
+            cq: self.cq.state(),
+            phase: self.cq.phase(),
+        }
+    }
+
+    /// It goes on with the rings of an image; no command is fetched.
+    pub(crate) fn load(&mut self, image: &PairImage)
+        requires rings { IsPairImage image.now }
+        requires none { self.old.commands ≡ [] }
+        ensures { self.new ≡ with_rings image.now self.old }
+    {
+        self.sq = SqRing::new(image.sq);
+        self.cq = CqRing::new(image.cq, image.phase);
     }
 
     /// The doorbell of the submission queue is rung.

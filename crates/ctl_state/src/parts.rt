@@ -36,7 +36,8 @@ impl Model for Parts {
 
     ghost view = { λ p. record { lanes = p.lanes; bytes = take p.fed p.bytes } };
 
-    ghost invariant = { λ p. (1 ≤ p.lanes) × (p.lanes ≤ 8) × (p.fed ≤ image_size p.lanes) × Begins p.lanes (take p.fed p.bytes) };
+    ghost invariant = { λ p. (1 ≤ p.lanes) × (p.lanes ≤ 8) × (p.fed ≤ image_size p.lanes)
+        × Begins p.lanes (take p.fed p.bytes) };
 }
 
 impl Parts {

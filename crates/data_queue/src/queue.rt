@@ -90,6 +90,13 @@ impl DataQueue {
         self.marked
     }
 
+    /// How many cells it has.
+    pub fn size(&self) -> u32
+        ensures { result ≡ length self.now.cells }
+    {
+        self.cells.len() as u32
+    }
+
     /// The bytes of a cell.
     pub fn cell(&self, i: u32) -> &[u8; 32]
         requires { i < length self.now.cells }

@@ -1,6 +1,6 @@
 use Rattle.std.proofs.Common.{◌≡◌, All, map, take, vec_capacity, vec_len, length}
 use Rattle.controller.specs.Pair.{new_pair}
-use Rattle.controller.proofs.controller.Controller.make.Given as goal
+use Rattle.controller.proofs.controller.make_in.Given as goal
 
 abbrev pub invariant-pairs : goal.invariant-pairs
 invariant-pairs l = record {
