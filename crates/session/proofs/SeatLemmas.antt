@@ -77,7 +77,7 @@ entry_there {M} old {clear} new b entry is have inside added =
 -- a piece was done on a shelf that was cleared, with the window that was lent
 pub piece_done : {M I : Type 0} {state : M → MediumState I} {moves : I → Step → Bool → I → Type 0} {piece : Piece} {result : PieceResult} {old clear new : NamespaceState M} {ram windows : List WindowState} {controller new_controller : ControllerState} (w : WindowState) →
     IsClearedAt piece.span.first old clear → windows ≡ set ram (piece.lane - 1) w → piece.lane - 1 < length ram → HasAppliedIn state moves piece result clear (data_pages (window_of ram piece.lane)) new (data_pages w) →
-    IsSameButData (window_of ram piece.lane) w → new_controller ≡ controller →
+    IsSameButData (window_of ram piece.lane) w → new_controller ≡ record controller { queue = new_controller.queue } →
     DoesPieceAt state moves piece result (record { namespace = old; windows = ram; controller = controller }) (record { namespace = new; windows = windows; controller = new_controller })
 piece_done {M} {I} {state} {moves} {piece} {result} {old} {clear} {new} {ram} {windows} w clear_is is there applied kept controller =
     let back = window_back ram piece.lane w is there in

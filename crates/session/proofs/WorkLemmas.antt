@@ -180,6 +180,10 @@ stands_after {s} {runs} {new_runs} {controller} {windows} {lanes} k result windo
 abbrev pub piece_event : Piece → PieceResult → Line
 piece_event piece result = line.Piece piece.lane piece.cid piece.span.first piece.span.count result.outcome (digest_told piece.op result.digest)
 
+-- what stands for lanes by a controller's pairs does so by another one with these
+same_pairs : {s : Script} {runs : List LaneRun} {controller : ControllerState} {windows : List WindowState} {lanes : List Lane} (new : ControllerState) → StandsFor s runs controller windows lanes → StandsFor s runs (record controller { queue = new.queue }) windows lanes
+same_pairs new is = record { count = is.count; each = is.each }
+
 -- the next piece of its lane was done
 pub piece_works : {M I : Type 0} {state : M → MediumState I} {moves : I → Step → Bool → I → Type 0} {s : Script} {runs new_runs : List LaneRun} {old new : PlaceState M} {piece : Piece} {result : PieceResult} {h : Here M} (run : LaneRun) (events : List Line) →
     IsPlaceOf s old → 1 ≤ piece.lane → piece.lane ≤ s.head.lanes → ((d : LaneRun) → slice_index_or runs (piece.lane - 1) d ≡ run) →
@@ -211,10 +215,10 @@ piece_works {M} {I} {state} {moves} {s} {runs} {new_runs} {old} {new} {piece} {r
       drawn_is = refl;
     } in
     let stands : StandsFor s new_runs new.controller new.windows new_here.lanes =
-    subst (λ (c : ControllerState). StandsFor s new_runs c new.windows new_here.lanes) (sym does.controller)
+    subst (λ (c : ControllerState). StandsFor s new_runs c new.windows new_here.lanes) (sym does.controller) (same_pairs new.controller
     (subst (λ (ws : List WindowState). StandsFor s new_runs old.controller ws new_here.lanes) (sym does.windows)
     (stands_after k result new_window after low high at.windows.count has
-    (λ d. lane_stands s k run (slice_index_or new_runs (k - 1) d) pair window new_window lane result (subst (λ (r : LaneRun). HasResult r result (slice_index_or new_runs (k - 1) d)) (run_is d) (has.here d)) does.kept stood) over.lanes)) in
+    (λ d. lane_stands s k run (slice_index_or new_runs (k - 1) d) pair window new_window lane result (subst (λ (r : LaneRun). HasResult r result (slice_index_or new_runs (k - 1) d)) (run_is d) (has.here d)) does.kept stood) over.lanes))) in
     record {
       new = new_here;
       added = piece_event piece result ∷ [];

@@ -55,7 +55,7 @@ pub record IsSameButSeat {M : Type 0} (k : ℕ) (old new : PlaceState M) : Type 
   pub windows : IsSameButWindow k old.windows new.windows
 
 -- A piece of a lane was done at a place: these calls were made of its media, and beside these its window's data pages
--- alone may have changed.
+-- alone may have changed, and the controller's queue of changes.
 pub record DoesPieceAt {M I : Type 0} (state : M → MediumState I) (moves : I → Step → Bool → I → Type 0) (piece : Piece) (result : PieceResult) (old new : PlaceState M) : Type 0 where
   pub moved : List (List ℕ)
   pub done : IsPieceDone piece moved result (data_pages (window_of old.windows piece.lane)) (data_pages (window_of new.windows piece.lane))
@@ -65,4 +65,4 @@ pub record DoesPieceAt {M I : Type 0} (state : M → MediumState I) (moves : I �
   pub shelves : SameShelves old.namespace new.namespace
   pub kept : IsSameButData (window_of old.windows piece.lane) (window_of new.windows piece.lane)
   pub windows : new.windows ≡ slice_set old.windows (piece.lane - 1) (window_of new.windows piece.lane)
-  pub controller : new.controller ≡ old.controller
+  pub controller : new.controller ≡ record old.controller { queue = new.controller.queue }

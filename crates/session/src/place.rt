@@ -1,7 +1,7 @@
 ghost use Rattle.std.specs.Prelude.{◌≡◌, ◌+◌, ◌/◌, ◌≤◌, [], ◌∷◌, length, slice_index_or, vec_capacity, vec_len};
 ghost use Rattle.nvm_model.specs.Turn.{Plans, PostsAll};
 ghost use Rattle.nvm_model.specs.World.{Lane};
-ghost use Rattle.nvm_blocks.specs.Namespace.{IsForNamespace, entries_of};
+ghost use Rattle.nvm_blocks.specs.Namespace.{IsForNamespace, block_count, entries_of};
 ghost use Rattle.guest_ram.specs.Window.{data_pages};
 ghost use Rattle.hall.specs.Plan.{pieces_of};
 ghost use Rattle.controller.specs.Pair.{pair_of};
@@ -97,7 +97,7 @@ impl<M: Medium> Place<M> {
         requires lane { piece.now.lane ≤ length self.old.windows }
         requires piece { IsForNamespace self.old.namespace
             (length (data_pages (window_of self.old.windows piece.now.lane))) piece.now }
-        requires rooms { HasRooms self.old.namespace }
+        requires rooms { HasRooms self.old.namespace × (block_count self.old.namespace ≤ 131072) }
         ensures done { DoesPieceAt M.state M.moves piece.now result self.old self.new }
         ensures entry { slice_index_or (entries_of self.new.namespace)
             (piece.now.span.first / self.old.namespace.shelf) []

@@ -11,7 +11,7 @@ use Rattle.session.proofs.place.Place.piece.Goals as goal
 pub serve_serial-requires-clause-room : goal.serve_serial-requires-clause-room
 serve_serial-requires-clause-room g c =
     let piece = subst (λ (p : PlaceState g.row.M.Denot). IsForNamespace p.namespace (length (data_pages (window_of p.windows c.args.piece.now.lane))) c.args.piece.now) (sym c.self.view_is) c.requires.piece in
-    cleared_room c.self.inside.namespace c.args.piece.now.span.first c.clear_at.ensures (subst (λ (p : PlaceState g.row.M.Denot). HasRooms p.namespace) (sym c.self.view_is) c.requires.rooms) (omega (arith, piece.some, piece.within))
+    cleared_room c.self.inside.namespace c.args.piece.now.span.first c.clear_at.ensures (subst (λ (p : PlaceState g.row.M.Denot). HasRooms p.namespace) (sym c.self.view_is) c.requires.rooms.0) (omega (arith, piece.some, piece.within))
 
 pub returns-clause-done : goal.returns-clause-done
 returns-clause-done g c = rw (← c.self.view_is)
@@ -26,10 +26,10 @@ returns-clause-done g c = rw (← c.self.view_is)
     let window : window_of ram k ≡ get_or c.windows-windows.result.now (c.from-at.result - 1) c.index-windows-at.result = lent_window k c.index-windows-at.result is i there in
     piece_done new.w c.clear_at.ensures (lent_back k new.w is i) there
     (subst (λ (w : WindowState). HasAppliedIn g.M.Medium.state g.M.Medium.moves c.args.piece.now c.serve_serial.result c.clear_at.new.self (data_pages w) new.namespace (data_pages new.w)) (sym window) did.applied)
-    (subst (λ (w : WindowState). IsSameButData w new.w) (sym window) did.window) did.same
+    (subst (λ (w : WindowState). IsSameButData w new.w) (sym window) did.window) did.noted.others
 
 pub returns-clause-entry : goal.returns-clause-entry
 returns-clause-entry g c = rw (← c.self.view_is)
     let piece = subst (λ (p : PlaceState g.row.M.Denot). IsForNamespace p.namespace (length (data_pages (window_of p.windows c.args.piece.now.lane))) c.args.piece.now) (sym c.self.view_is) c.requires.piece in
-    let rooms = subst (λ (p : PlaceState g.row.M.Denot). HasRooms p.namespace) (sym c.self.view_is) c.requires.rooms in
+    let rooms = subst (λ (p : PlaceState g.row.M.Denot). HasRooms p.namespace) (sym c.self.view_is) c.requires.rooms.0 in
     entry_there c.self.inside.namespace c.serve_serial.new.namespace _ _ c.clear_at.ensures rooms (omega (arith, piece.some, piece.within)) c.serve_serial.ensures.entry
