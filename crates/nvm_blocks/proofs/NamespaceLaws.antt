@@ -1,17 +1,19 @@
 use Rattle.std.specs.Prelude.{IfSome, OnErr, OnOk, is_err}
-use Rattle.std.proofs.Common.{◌≡◌, ℕ, ◌+◌, ◌/◌, ◌%◌, Bool, cond, List, [], ◌∷◌, Option, Some, None, Result, Ok, Err, length, set, refl, sym, ap, subst, ◌∙◌}
+use Rattle.std.proofs.Common.{◌≡◌, ℕ, ◌+◌, ◌/◌, ◌%◌, Bool, cond, List, [], ◌∷◌, Option, Some, None, Result, Ok, Err, length, set, refl, sym, ap, subst, ◌∙◌, ◌<◌, ◌≤◌, ◌++◌, All, get_or, get_or-set_same, length-set, arith}
+use Rattle.std.proofs.Math.Nat.{div-lt_iff_lt-mul}
 use Rattle.std.proofs.lemmas.Nat.{div-add-mod'}
 use Rattle.std.proofs.lemmas.List.{length-map}
 use Rattle.mig_base.specs.Count.{HaveCause, NeverFall, RiseBy}
 use Rattle.nvm_model.specs.declared.piece.Piece.{Piece}
 use Rattle.nvm_model.specs.declared.piece.PieceResult.{PieceResult}
+use Rattle.nvm_model.specs.declared.piece.ShelfEntry.{ShelfEntry}
 use Rattle.nvm_model.specs.declared.trace.Step.{Step}
 use Rattle.nvm_model.specs.History.{is_faulted}
 use Rattle.nvm_model.specs.Medium.{At, Effect, MediumState, StayTold, flat_call, got, sent}
 use Rattle.nvm_model.specs.Piece.{block_at}
 use Rattle.nvm_model.specs.Trace.{piece_calls}
 use Rattle.nvm_model.proofs.MediaLemmas.{counts_rise, failures_of, flat_calls, piece_told, told_map}
-use Rattle.nvm_blocks.specs.Namespace.{HasAppliedIn, HasCalled, NamespaceState, faults_of, media_of, told_of}
+use Rattle.nvm_blocks.specs.Namespace.{HasAppliedIn, HasCalled, HasRoom, IsClearedAt, NamespaceState, block_count, entries_of, faults_of, media_of, rooms_of, told_of, with_entry}
 use Rattle.nvm_blocks.specs.ShelfState.{ShelfState}
 use Rattle.nvm_blocks.specs.Work.{HasToldEffect}
 
@@ -103,3 +105,30 @@ was_put {state = state} {n = n} {new} b bytes (Err x) h = record {
   kept = same_told _ (told_of state n) (told_of state new) (λ x y e. e.new_is) (call_told h);
   cause = call_counts (Err x) refl h;
 }
+
+-- Its shelves' entries.
+
+-- a shelf whose entries were dropped has room for one
+pub cleared_room : {M : Type 0} (n : NamespaceState M) {new : NamespaceState M} (b m : ℕ) → IsClearedAt b n new → 1 ≤ n.shelf → b < block_count n → 1 ≤ m → All (λ (room : ℕ). m ≤ room) (rooms_of n) → HasRoom new (b / new.shelf)
+cleared_room {M} n {new} b m is large inside some rooms =
+    let i = b / n.shelf in
+    let there : i < length n.shelves = (div-lt_iff_lt-mul large).1 inside in
+    let count : length (rooms_of n) ≡ length n.shelves = length-map n.shelves (λ (s : ShelfState M). s.room) in
+    let entries : length (entries_of n) ≡ length n.shelves = length-map n.shelves (λ (s : ShelfState M). s.entries) in
+    let room = rooms i 0 (omega (arith, there, count)) in
+    let none : get_or (entries_of new) i [] ≡ [] = ap (λ (es : List (List ShelfEntry)). get_or es i []) is.entries ∙ get_or-set_same (entries_of n) i [] [] (omega (arith, there, entries)) in
+    let own : HasRoom new i = subst (λ (rs : List ℕ). length (get_or (entries_of new) i []) < get_or rs i 0) (sym is.rooms) (omega (arith, ap (λ (es : List ShelfEntry). length es) none, room, some)) in
+    subst (λ (shelf : ℕ). HasRoom new (b / shelf)) (sym is.shelf) own
+
+-- where one was added then it is the only one
+pub entry_there : {M : Type 0} (n : NamespaceState M) {clear : NamespaceState M} (new : NamespaceState M) (b : ℕ) (entry : ShelfEntry) → IsClearedAt b n clear → 1 ≤ n.shelf → b < block_count n → entries_of new ≡ with_entry (b / clear.shelf) entry (entries_of clear) →
+    get_or (entries_of new) (b / n.shelf) [] ≡ entry ∷ []
+entry_there {M} n {clear} new b entry is large inside added =
+    let i = b / n.shelf in
+    let there : i < length n.shelves = (div-lt_iff_lt-mul large).1 inside in
+    let entries : length (entries_of n) ≡ length n.shelves = length-map n.shelves (λ (s : ShelfState M). s.entries) in
+    let low : i < length (entries_of n) = omega (arith, there, entries) in
+    let count : length (entries_of clear) ≡ length (entries_of n) = ap (λ (es : List (List ShelfEntry)). length es) is.entries ∙ length-set (entries_of n) i [] in
+    let none : get_or (entries_of clear) i [] ≡ [] = ap (λ (es : List (List ShelfEntry)). get_or es i []) is.entries ∙ get_or-set_same (entries_of n) i [] [] low in
+    let own : entries_of new ≡ with_entry i entry (entries_of clear) = subst (λ (shelf : ℕ). entries_of new ≡ with_entry (b / shelf) entry (entries_of clear)) is.shelf added in
+    ap (λ (es : List (List ShelfEntry)). get_or es i []) own ∙ get_or-set_same (entries_of clear) i _ [] (omega (arith, low, count)) ∙ ap (λ (es : List ShelfEntry). es ++ entry ∷ []) none

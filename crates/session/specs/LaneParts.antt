@@ -24,6 +24,11 @@ pub record HasMore (most : ℕ) (old new : Vec Line Global) : Type 0 where
   pub few : vec_len new ≤ vec_len old + most
   pub capacity : vec_capacity new ≡ vec_capacity old
 
+-- at most one more, and one where it is said so
+pub record HasOne (one : Bool) (old new : Vec Line Global) : Type 0 where
+  pub more : HasMore 1 old new
+  pub exact : one ≡ true → vec_len new ≡ vec_len old + 1
+
 -- events lead from x to another, for which the state then stands
 pub record Leads {X : Type 0} (Part : X → List Line → X → Type 0) (Stood : X → Type 0) (x : X) (events new_events : List Line) : Type 0 where
   pub new : X

@@ -56,11 +56,11 @@ pub record MayPlanAll {M : Type 0} (s : Script) (runs : List LaneRun) (plan : Pl
   pub fits : FitPlan s plan
   pub empty : (k : ℕ) → 1 ≤ k → k ≤ s.head.lanes → pieces_of plan k ≡ []
 
--- none of its pieces was done
+-- no piece of the turn was done
 abbrev pub AreUndone : Script → List LaneRun → Type 0
 AreUndone s runs = (k : ℕ) (d : LaneRun) → 1 ≤ k → k ≤ s.head.lanes → (slice_index_or runs (k - 1) d).results.items ≡ []
 
--- all of them were
+-- all pieces of the plan were
 abbrev pub AreDone : Script → List LaneRun → PlanState → Type 0
 AreDone s runs plan = (k : ℕ) (d : LaneRun) → 1 ≤ k → k ≤ s.head.lanes → length (slice_index_or runs (k - 1) d).results.items ≡ length (pieces_of plan k)
 
@@ -74,7 +74,7 @@ pub record StandsOver {M : Type 0} (s : Script) (runs : List LaneRun) (place : P
   pub lanes : StandsFor s runs place.controller place.windows h.lanes
   pub media : h.media ≡ media_of place.namespace
 
--- the same after one piece more than were drawn
+-- the same where one piece more was drawn
 pub record StandsNext {M : Type 0} (s : Script) (runs : List LaneRun) (place : PlaceState M) (drawn : ℕ) (h : Here M) : Type 0 where
   pub over : StandsOver s runs place h
   pub one : h.drawn ≡ drawn + 1

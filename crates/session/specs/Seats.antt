@@ -8,7 +8,7 @@ use Rattle.nvm_model.specs.Medium.{IsAt, MediumState, all_at}
 use Rattle.nvm_model.specs.ScriptText.{IsHead}
 use Rattle.nvm_model.specs.Trace.{IsPieceDone, piece_calls}
 use Rattle.nvm_model.specs.World.{Lane}
-use Rattle.nvm_blocks.specs.Namespace.{NamespaceState, media_of, rooms_of}
+use Rattle.nvm_blocks.specs.Namespace.{IsForNamespace, NamespaceState, block_count, media_of, rooms_of}
 use Rattle.nvm_blocks.specs.Work.{IsSameButData}
 use Rattle.guest_ram.specs.Window.{WindowState, data_pages, no_window}
 use Rattle.controller.specs.Pair.{pair_of}
@@ -40,6 +40,13 @@ pub record MayPlan {M : Type 0} (s : Script) (run : LaneRun) (place : PlaceState
 -- each shelf has room for the entries of a command's pieces
 abbrev pub HasRooms : {M : Type 0} → NamespaceState M → Type 0
 HasRooms n = (1 ≤ n.shelf) × All (λ (room : ℕ). 64 ≤ room) (rooms_of n)
+
+-- a piece for the place's namespace, and for the window of its lane, which is there
+pub record IsForPlace {M : Type 0} (piece : Piece) (place : PlaceState M) : Type 0 where
+  pub lane : piece.lane ≤ length place.windows
+  pub fits : IsForNamespace place.namespace (length (data_pages (window_of place.windows piece.lane))) piece
+  pub rooms : HasRooms place.namespace
+  pub few : block_count place.namespace ≤ 131072
 
 -- the windows but that of lane k stayed, and it kept its number and its size
 pub record IsSameButWindow (k : ℕ) (old new : List WindowState) : Type 0 where

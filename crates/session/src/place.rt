@@ -1,14 +1,13 @@
 ghost use Rattle.std.specs.Prelude.{◌≡◌, ◌+◌, ◌/◌, ◌≤◌, [], ◌∷◌, length, slice_index_or, vec_capacity, vec_len};
 ghost use Rattle.nvm_model.specs.Turn.{Plans, PostsAll};
 ghost use Rattle.nvm_model.specs.World.{Lane};
-ghost use Rattle.nvm_blocks.specs.Namespace.{IsForNamespace, block_count, entries_of};
-ghost use Rattle.guest_ram.specs.Window.{data_pages};
+ghost use Rattle.nvm_blocks.specs.Namespace.{entries_of};
 ghost use Rattle.hall.specs.Plan.{pieces_of};
 ghost use Rattle.controller.specs.Pair.{pair_of};
 ghost use Rattle.session.specs.LaneParts.{HasMore, Leads};
-ghost use Rattle.session.specs.Lanes.{IsRunOf, window_of};
+ghost use Rattle.session.specs.Lanes.{IsRunOf};
 ghost use Rattle.session.specs.Phases.{FitPlan, PlansLane};
-ghost use Rattle.session.specs.Seats.{DoesPieceAt, HasRooms, HasSeat, IsSameButSeat, MayPlan, Sits};
+ghost use Rattle.session.specs.Seats.{DoesPieceAt, HasSeat, IsForPlace, IsSameButSeat, MayPlan, Sits};
 ghost use Rattle.session.specs.Work.{MayPost};
 
 mod moving;
@@ -94,10 +93,7 @@ impl<M: Medium> Place<M> {
 
     /// Does a piece, the one of this number of its lane's. Its entry is the only one of its shelf then.
     pub(crate) fn piece(&mut self, piece: &Piece, index: u32) -> PieceResult
-        requires lane { piece.now.lane ≤ length self.old.windows }
-        requires piece { IsForNamespace self.old.namespace
-            (length (data_pages (window_of self.old.windows piece.now.lane))) piece.now }
-        requires rooms { HasRooms self.old.namespace × (block_count self.old.namespace ≤ 131072) }
+        requires { IsForPlace piece.now self.old }
         ensures done { DoesPieceAt M.state M.moves piece.now result self.old self.new }
         ensures entry { slice_index_or (entries_of self.new.namespace)
             (piece.now.span.first / self.old.namespace.shelf) []

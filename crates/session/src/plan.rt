@@ -1,5 +1,6 @@
 // The plan of a turn: for each lane in order, its guest reaps and acts, and the controller fetches.
-ghost use Rattle.std.specs.Prelude.{◌≡◌, ◌+◌, ◌*◌, ◌<◌, ◌≤◌, ◌++◌, true, false, List, [], length, map, vec_len, vec_capacity};
+ghost use Rattle.std.specs.Prelude.{◌≡◌, ◌+◌, ◌*◌, ◌<◌, ◌≤◌, ◌++◌, true, false};
+ghost use Rattle.std.specs.Prelude.{List, [], length, map, vec_len, vec_capacity};
 ghost use Rattle.nvm_model.specs.declared.line.Line.TheVariants as line;
 ghost use Rattle.nvm_model.specs.declared.script.Act.TheVariants.{Idle};
 ghost use Rattle.nvm_model.specs.ScriptText.{IsAct};
@@ -8,7 +9,7 @@ ghost use Rattle.nvm_model.specs.World.{Lane, set_of};
 ghost use Rattle.hall.specs.Plan.{pieces_of};
 ghost use Rattle.controller.specs.Pair.{fetch_line, pair_of};
 ghost use Rattle.turns.specs.Parts.{ActsSome, ReapsSome};
-ghost use Rattle.session.specs.LaneParts.{DidAct, HasMore, IsGuestStep, IsSameButPair, IsSeat, Leads, MayFetch, StandBoth, StandsFree, seat_of};
+ghost use Rattle.session.specs.LaneParts.{DidAct, HasMore, HasOne, IsGuestStep, IsSameButPair, IsSeat, Leads, MayFetch, StandBoth, StandsFree, seat_of};
 ghost use Rattle.session.specs.Lanes.{Stands};
 ghost use Rattle.session.specs.Phases.{AreUndone, FitPlan, HasPlan, MayPlanAll, PlansLane};
 ghost use Rattle.session.specs.Place.{StandsFor};
@@ -123,8 +124,7 @@ fn reap(
         l events.old.items events.new.items }
     ensures step { IsGuestStep script.now lane (seat_of run.old controller.old window.now)
         (seat_of run.new controller.new window.now) }
-    ensures one { result ≡ true → vec_len events.new ≡ vec_len events.old + 1 }
-    ensures more { HasMore 1 events.old events.new }
+    ensures more { HasOne result events.old events.new }
 {
     match run.guest.reap(window) {
         Some(cqe) => {
@@ -192,8 +192,7 @@ fn do_next_act(
         l events.old.items events.new.items }
     ensures step { IsGuestStep script.now lane (seat_of run.old controller.old window.old)
         (seat_of run.new controller.new window.new) }
-    ensures one { result ≡ true → vec_len events.new ≡ vec_len events.old + 1 }
-    ensures more { HasMore 1 events.old events.new }
+    ensures more { HasOne result events.old events.new }
 {
     let place = run.acts_done as usize;
     if place == run.script.acts.len() {

@@ -10,13 +10,16 @@ next_piece-piece-requires-clause-few g c =
     let has = c.requires.has in
     omega (arith, has.fit.head.burst.1, pieces_fit has.fit.head.shelf.0 (has.planned (c.args.at + 1) (omega arith) (omega (arith, c.requires.left.there))))
 
-pub piece-done-requires-clause-lane : goal.piece-done-requires-clause-lane
-piece-done-requires-clause-lane g c =
-    let fits = piece_fits c.args.at c.requires.has c.requires.left c.next_piece-piece.ensures in
-    omega (arith, fits.0, c.requires.left.there, c.requires.has.fit.at.windows.count)
-
-pub piece-done-requires-clause-piece : goal.piece-done-requires-clause-piece
-piece-done-requires-clause-piece g c = (piece_fits c.args.at c.requires.has c.requires.left c.next_piece-piece.ensures).1
+pub piece-done-requires : goal.piece-done-requires
+piece-done-requires g c =
+    let has = c.requires.has in
+    let fits = piece_fits c.args.at has c.requires.left c.next_piece-piece.ensures in
+    record {
+      lane = omega (arith, fits.0, c.requires.left.there, has.fit.at.windows.count);
+      fits = fits.1;
+      rooms = (omega (arith, has.fit.at.namespace.shelf, has.fit.head.shelf.0), has.fit.at.namespace.rooms);
+      few = omega (arith, has.fit.at.namespace.blocks, has.fit.head.blocks.1);
+    }
 
 pub push_result-requires-clause-room : goal.push_result-requires-clause-room
 push_result-requires-clause-room g c = λ d.

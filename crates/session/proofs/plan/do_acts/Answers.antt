@@ -15,8 +15,8 @@ pub loop-done-preserved : goal.loop-done-preserved
 loop-done-preserved c = record {
   acts = λ l free. leads_more (λ y z first second x last. acts_more x last) (c.loop-done.invariant.acts l free) c.if-not-do_next_act.ensures.acts;
   step = step_more c.loop-done.invariant.step c.do_next_act.ensures.step;
-  count = omega (arith, c.if-not-do_next_act.ensures.one);
-  capacity = c.do_next_act.ensures.more.capacity ∙ c.loop-done.invariant.capacity;
+  count = omega (arith, c.if-not-do_next_act.ensures.more.exact);
+  capacity = c.do_next_act.ensures.more.more.capacity ∙ c.loop-done.invariant.capacity;
 }
 
 pub returns-then-not-do_next_act-clause-acts : goal.returns-then-not-do_next_act-clause-acts

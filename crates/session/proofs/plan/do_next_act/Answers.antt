@@ -5,7 +5,7 @@ use Rattle.nvm_model.specs.World.{acts_of}
 use Rattle.turns.specs.Parts.{ActsSome}
 use Rattle.turns.proofs.PartLaws.{act_refused, acts_all}
 use Rattle.session.specs.LaneParts.{Leads, StandsFree, seat_of}
-use Rattle.session.proofs.LanePartLemmas.{act_did, act_fits, leads_none, next_due, step_none}
+use Rattle.session.proofs.LanePartLemmas.{act_did, act_fits, leads_none, next_due}
 use Rattle.session.proofs.plan.do_next_act.Goals as goal
 
 pub returns-then-place-len-clause-acts : goal.returns-then-place-len-clause-acts
@@ -13,9 +13,6 @@ returns-then-place-len-clause-acts c = λ l free.
     let own = c.requires.seat.run in
     let all = ap length own.script.acts_are ∙ ap (λ (n : ℕ). length (acts_of n c.args.script.now.acts)) own.lane in
     leads_none l c.args.events.now.items free (acts_all l (omega (arith, all, free.acts, c.if-place-len.true, c.len.ensures)))
-
-pub returns-then-place-len-clause-step : goal.returns-then-place-len-clause-step
-returns-then-place-len-clause-step c = step_none c.requires.seat
 
 pub do_act-requires-clause-act : goal.do_act-requires-clause-act
 do_act-requires-clause-act c = act_fits c.index.result.now c.requires.seat.run (omega arith) c.index.ensures

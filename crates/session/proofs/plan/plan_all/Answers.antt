@@ -36,9 +36,6 @@ plan-requires-clause-plan g c =
     let is = seat_at c.loop-at.at run c.loop-at.invariant.fit (omega arith) c.index_mut.ensures.value in
     (c.loop-at.invariant.fits, c.loop-at.invariant.empty run.script.lane is.0.there.0 is.0.there.1 (omega (arith, is.1)))
 
-pub plan-requires-clause-room : goal.plan-requires-clause-room
-plan-requires-clause-room g c = omega (arith, c.requires.room, c.loop-at.invariant.more.few, c.loop-at.invariant.more.capacity)
-
 pub loop-at-preserved : goal.loop-at-preserved
 loop-at-preserved g c =
     let s = c.args.script.now in
@@ -69,8 +66,3 @@ pub returns-clause-has : goal.returns-clause-has
 returns-clause-has g c =
     let now = c.loop-at.invariant in
     (record { fit = now.fit; fits = now.fits; planned = λ k low high. now.planned k low high (omega (arith, high)) }, now.none)
-
-pub returns-clause-more : goal.returns-clause-more
-returns-clause-more g c =
-    let more = c.loop-at.invariant.more in
-    record { fewer = more.fewer; few = omega (arith, more.few); capacity = more.capacity }

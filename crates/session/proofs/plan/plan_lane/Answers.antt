@@ -1,12 +1,11 @@
 use Rattle.std.proofs.Common.{◌≡◌, ◌∙◌, List, [], ℕ, ◌++◌, All, length, map, ap, sym, refl, subst, length-drop, arith}
-use Rattle.std.proofs.lemmas.List.{length-map}
 use Rattle.nvm_values.specs.Status.{StatusPair}
 use Rattle.nvm_model.specs.declared.command.Command.{Command}
 use Rattle.nvm_model.specs.declared.line.Line.{Line}
 use Rattle.nvm_model.specs.Turn.{Plans}
 use Rattle.nvm_model.specs.World.{set_of}
 use Rattle.guest_ram.specs.Window.{data_pages}
-use Rattle.controller.specs.Pair.{IsFetched, fetch_line, lane_pieces, pair_of, told_fetch}
+use Rattle.controller.specs.Pair.{IsFetched, fetch_line, lane_pieces, pair_of}
 use Rattle.controller.proofs.StepLemmas.{all_fetched}
 use Rattle.session.specs.LaneParts.{IsGuestStep, Leads, seat_of}
 use Rattle.session.specs.Lanes.{Stands}
@@ -64,19 +63,4 @@ returns-clause-planned c =
         few = omega (arith, step.few, (steps c).pairs.burst, c.requires.may.burst);
       };
       same = with_same k _ c.args.plan.now step.planned;
-    }
-
-pub returns-clause-more : goal.returns-clause-more
-returns-clause-more c =
-    let step = c.fetch_turn.ensures.step.step in
-    let told = ap length c.fetched.ensures ∙ ap length (step.told (none c)) ∙ length-map (pair_of c.fetch_turn.new.self c.args.run.now.script.lane).commands (told_fetch c.args.script.now.head.shelf) in
-    let reaps = c.reap_all.ensures.more in
-    let acts = c.do_acts.ensures.more in
-    let fetches = c.push_fetches.ensures.more in
-    let few = step.few in
-    let burst = (steps c).pairs.burst in
-    record {
-      fewer = omega (arith, reaps.fewer, acts.fewer, fetches.fewer);
-      few = omega (arith, reaps.few, acts.few, fetches.few, told, few, burst, c.requires.may.burst, c.requires.may.head.burst.1);
-      capacity = fetches.capacity ∙ acts.capacity ∙ reaps.capacity;
     }

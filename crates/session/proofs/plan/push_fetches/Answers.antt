@@ -1,10 +1,7 @@
-use Rattle.std.proofs.Common.{◌∙◌, append-nil, sym, arith, rules}
+use Rattle.std.proofs.Common.{◌∙◌, arith, rules}
 use Rattle.controller.specs.Pair.{fetch_line}
 use Rattle.session.proofs.LanePartLemmas.{pushed_all, pushed_more}
 use Rattle.session.proofs.plan.push_fetches.Goals as goal
-
-pub loop-told-init : goal.loop-told-init
-loop-told-init c = record { events = sym (append-nil c.args.events.now.items); count = omega arith; capacity = search rules }
 
 pub loop-told-preserved : goal.loop-told-preserved
 loop-told-preserved c = record {

@@ -4,7 +4,7 @@ use Rattle.nvm_model.specs.World.{set_of}
 use Rattle.lanes.specs.Guest.{GuestState}
 use Rattle.turns.specs.Parts.{ReapsSome}
 use Rattle.session.specs.LaneParts.{Leads, StandsFree, seat_of}
-use Rattle.session.proofs.LanePartLemmas.{guest_step, pair_same, pair_stepped, reap_none, reap_some, run_set, rung_commands}
+use Rattle.session.proofs.LanePartLemmas.{guest_step, pair_stepped, reap_none, reap_some, run_set, rung_commands}
 use Rattle.session.proofs.plan.reap.Goals as goal
 
 pub returns-in-Some-clause-reaps : goal.returns-in-Some-clause-reaps
@@ -25,6 +25,3 @@ returns-in-Some-clause-step c =
 pub returns-in-None-clause-reaps : goal.returns-in-None-clause-reaps
 returns-in-None-clause-reaps c = λ l free.
     reap_none c.args.events.now.items free (c.in-None.ensures.reaps (set_of c.args.script.now.head c.args.lane) l (run_set c.requires.seat.run) free.both.guest_stands)
-
-pub returns-in-None-clause-step : goal.returns-in-None-clause-step
-returns-in-None-clause-step c = guest_step c.reap.new.self c.requires.seat (ap (λ (g : GuestState). g.lane) c.in-None.ensures.takes.1) refl refl (pair_same c.args.controller.now) refl

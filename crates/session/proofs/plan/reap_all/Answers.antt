@@ -23,8 +23,8 @@ pub loop-turn-preserved : goal.loop-turn-preserved
 loop-turn-preserved c = record {
   reaps = λ l free. leads_more (λ y z first second x last. reaps_more x last) (c.loop-turn.invariant.reaps l free) c.if-not-reap.ensures.reaps;
   step = step_more c.loop-turn.invariant.step c.reap.ensures.step;
-  count = omega (arith, c.if-not-reap.ensures.one);
-  capacity = c.reap.ensures.more.capacity ∙ c.loop-turn.invariant.capacity;
+  count = omega (arith, c.if-not-reap.ensures.more.exact);
+  capacity = c.reap.ensures.more.more.capacity ∙ c.loop-turn.invariant.capacity;
 }
 
 pub returns-clause-reaps : goal.returns-clause-reaps

@@ -32,9 +32,6 @@ post-requires-clause-done g c =
     run_here c.loop-at.runs.items (λ (r : LaneRun). MayPost s k r (pair_of c.loop-at.place.controller k)) c.loop-at.at k run is.1 c.index_mut.ensures.value
     (c.loop-at.invariant.may k run is.0.there.0 is.0.there.1 (omega (arith, is.1)))
 
-pub post-requires-clause-room : goal.post-requires-clause-room
-post-requires-clause-room g c = omega (arith, c.requires.room, c.loop-at.invariant.more.few, c.loop-at.invariant.more.capacity)
-
 pub loop-at-preserved : goal.loop-at-preserved
 loop-at-preserved g c =
     let s = c.args.script.now in
@@ -74,8 +71,3 @@ returns-clause-rests g c = (
     results = λ k d low high. c.loop-at.invariant.results k d low high (omega (arith, high));
   },
 )
-
-pub returns-clause-more : goal.returns-clause-more
-returns-clause-more g c =
-    let more = c.loop-at.invariant.more in
-    record { fewer = more.fewer; few = omega (arith, more.few); capacity = more.capacity }

@@ -1,17 +1,17 @@
-use Rattle.std.proofs.Common.{◌≡◌, ◌-◌, ◌<◌, ◌≤◌, get_or, length, subst, sym, arith}
+use Rattle.std.proofs.Common.{◌≡◌, ◌-◌, ◌<◌, get_or, length, subst, sym, arith}
 use Rattle.guest_ram.specs.Window.{WindowState, data_pages}
-use Rattle.nvm_blocks.specs.Namespace.{HasAppliedIn, IsForNamespace}
+use Rattle.nvm_blocks.specs.Namespace.{HasAppliedIn}
 use Rattle.nvm_blocks.specs.Work.{IsSameButData}
 use Rattle.session.specs.Lanes.{window_of}
-use Rattle.session.specs.Place.{PlaceState}
-use Rattle.session.specs.Seats.{HasRooms}
-use Rattle.session.proofs.SeatLemmas.{cleared_room, entry_there, lent_back, lent_window, piece_done}
+use Rattle.session.specs.Seats.{IsForPlace}
+use Rattle.nvm_blocks.proofs.NamespaceLaws.{cleared_room, entry_there}
+use Rattle.session.proofs.SeatLemmas.{lent_back, lent_window, piece_done}
 use Rattle.session.proofs.place.Place.piece.Goals as goal
 
 pub serve_serial-requires-clause-room : goal.serve_serial-requires-clause-room
 serve_serial-requires-clause-room g c =
-    let piece = subst (λ (p : PlaceState g.row.M.Denot). IsForNamespace p.namespace (length (data_pages (window_of p.windows c.args.piece.now.lane))) c.args.piece.now) (sym c.self.view_is) c.requires.piece in
-    cleared_room c.self.inside.namespace c.args.piece.now.span.first c.clear_at.ensures (subst (λ (p : PlaceState g.row.M.Denot). HasRooms p.namespace) (sym c.self.view_is) c.requires.rooms.0) (omega (arith, piece.some, piece.within))
+    let is = subst (IsForPlace c.args.piece.now) (sym c.self.view_is) c.requires in
+    cleared_room c.self.inside.namespace c.args.piece.now.span.first 64 c.clear_at.ensures is.rooms.0 (omega (arith, is.fits.some, is.fits.within)) (omega arith) is.rooms.1
 
 pub returns-clause-done : goal.returns-clause-done
 returns-clause-done g c = rw (← c.self.view_is)
@@ -20,7 +20,7 @@ returns-clause-done g c = rw (← c.self.view_is)
     let new = c.serve_serial.new in
     let did = c.serve_serial.ensures in
     let i : c.from-at.result - 1 ≡ k - 1 = omega (arith, c.from-at.ensures, c.get.ensures.value) in
-    let lane : k ≤ length ram = subst (λ (p : PlaceState g.row.M.Denot). k ≤ length p.windows) (sym c.self.view_is) c.requires.lane in
+    let lane = (subst (IsForPlace c.args.piece.now) (sym c.self.view_is) c.requires).lane in
     let there : k - 1 < length ram = omega (arith, lane, c.get.ensures.range, c.get.ensures.value) in
     let is = c.windows-windows.ensures.value in
     let window : window_of ram k ≡ get_or c.windows-windows.result.now (c.from-at.result - 1) c.index-windows-at.result = lent_window k c.index-windows-at.result is i there in
@@ -30,6 +30,5 @@ returns-clause-done g c = rw (← c.self.view_is)
 
 pub returns-clause-entry : goal.returns-clause-entry
 returns-clause-entry g c = rw (← c.self.view_is)
-    let piece = subst (λ (p : PlaceState g.row.M.Denot). IsForNamespace p.namespace (length (data_pages (window_of p.windows c.args.piece.now.lane))) c.args.piece.now) (sym c.self.view_is) c.requires.piece in
-    let rooms = subst (λ (p : PlaceState g.row.M.Denot). HasRooms p.namespace) (sym c.self.view_is) c.requires.rooms.0 in
-    entry_there c.self.inside.namespace c.serve_serial.new.namespace _ _ c.clear_at.ensures rooms (omega (arith, piece.some, piece.within)) c.serve_serial.ensures.entry
+    let is = subst (IsForPlace c.args.piece.now) (sym c.self.view_is) c.requires in
+    entry_there c.self.inside.namespace c.serve_serial.new.namespace _ _ c.clear_at.ensures is.rooms.0 (omega (arith, is.fits.some, is.fits.within)) c.serve_serial.ensures.entry
