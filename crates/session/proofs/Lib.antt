@@ -4,6 +4,7 @@ pub mod CopyLemmas
 pub mod LaneLemmas
 pub mod LanePartLemmas
 pub mod MemoryLemmas
+pub mod OpenLemmas
 pub mod OrderLemmas
 pub mod PieceLemmas
 pub mod RestLemmas
