@@ -62,6 +62,7 @@ opens {M} {session} {from_media} {to_media} {from} {to} is new source destinatio
         side = sym new.side;
         ahead = rw new.ahead (ahead_is s.head.migrate is.head.migrate);
         lanes = stands;
+        memory = sym (whole_memory is new.runs (have_made is source.windows) lanes.0);
         other = sym destination.media_are;
         left = sym (whole_memory is new.runs (have_made is destination.windows) (starts is new destination).0);
         out = refl;
