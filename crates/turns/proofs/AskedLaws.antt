@@ -15,6 +15,7 @@ use Rattle.turns.specs.Run.Stage.{Title, Turn, Begin, Resume, GiveUp, End}
 -- It is begun only where it is asked for, and no run is over before it was. Until it is begun, nothing of the other side
 -- changes.
 pub record Asks {M : Type 0} (old x : Snapshot M) : Type 0 where
+  pub same : x.task ≡ old.task
   pub asked : x.tried ≡ true → (turn : ℕ) × (x.task.script.head.migrate ≡ Some turn)
   pub begun : x.phase ≡ Suspended → x.tried ≡ true
   pub over : x.phase ≡ Over → x.tried ≡ false → (turn : ℕ) → x.task.script.head.migrate ≡ Some turn → ⊥
@@ -23,6 +24,7 @@ pub record Asks {M : Type 0} (old x : Snapshot M) : Type 0 where
 -- the run goes on with its guests running, where no migration is begun
 kept : {M : Type 0} {old x y : Snapshot M} → Asks old x → y.tried ≡ x.tried → y.task ≡ x.task → y.phase ≡ Running → (y.tried ≡ false → (y.side ≡ x.side) × (y.other ≡ x.other) × (y.left ≡ x.left)) → Asks old y
 kept {M} {old} {x} {y} h tried task phase stays = record {
+  same = task ∙ h.same;
   asked = λ t. let a = h.asked (sym tried ∙ t) in (a.0, ap (λ (k : Task). k.script.head.migrate) task ∙ a.1);
   begun = λ p. absurd cc;
   over = λ p. absurd cc;
@@ -40,6 +42,7 @@ stage_asks {M} state moves old x Begin y r h =
     let tried = ap (λ (z : Snapshot M). z.tried) r.after in
     let phase = ap (λ (z : Snapshot M). z.phase) r.after in
     record {
+      same = ap (λ (z : Snapshot M). z.task) r.after ∙ h.same;
       asked = λ t. (r.due.turn, ap (λ (z : Snapshot M). z.task.script.head.migrate) r.after ∙ r.due.asked);
       begun = λ p. tried;
       over = λ p. absurd cc;
@@ -58,6 +61,7 @@ stage_asks {M} state moves old x End y r h =
     let phase = ap (λ (z : Snapshot M). z.phase) r.after in
     let migrate = ap (λ (z : Snapshot M). z.task.script.head.migrate) r.after in
     record {
+      same = ap (λ (z : Snapshot M). z.task) r.after ∙ h.same;
       asked = λ t. let a = h.asked (sym tried ∙ t) in (a.0, migrate ∙ a.1);
       begun = λ p. absurd cc;
       over = λ p n turn m. r.not_due (record { untried = sym tried ∙ n; turn = turn; asked = sym migrate ∙ m; when = inr r.complete });
@@ -69,4 +73,4 @@ stage_asks {M} state moves old x End y r h =
 pub run_asks : {M I : Type 0} (state : M → MediumState I) (moves : I → Step → Bool → I → Type 0) (old : Snapshot M) (stages : List Stage) (new : Snapshot M) → old.phase ≡ New → old.tried ≡ false → old.side ≡ Source → Chain (IsStage state moves) old stages new → Asks old new
 run_asks {M} state moves old stages new phase tried side run =
     chain_keeps (IsStage state moves) (Asks old) (stage_asks state moves old) old stages new run
-    (record { asked = λ t. absurd cc; begun = λ p. absurd cc; over = λ p. absurd cc; stays = λ n. (side, refl, refl) })
+    (record { same = refl; asked = λ t. absurd cc; begun = λ p. absurd cc; over = λ p. absurd cc; stays = λ n. (side, refl, refl) })
