@@ -1,24 +1,20 @@
 use Rattle.std.proofs.Common.{◌≡◌, ℕ, ◌*◌, ◌&&◌, Bool, true, false, List, Option, Some, None, Result, Ok, Err, length, refl, sym, ap, subst, ◌∙◌}
 use Rattle.std.specs.Prelude.{IfOk, is_err}
-use Rattle.std.specs.List.{flat_map}
 use Rattle.std.proofs.lemmas.List.{length-map}
-use Rattle.mig_base.specs.Count.{NeverFall, RiseBy, RisesBy}
+use Rattle.mig_base.specs.Count.{RisesBy}
 use Rattle.nvm_model.specs.declared.script.Head.{Head}
 use Rattle.nvm_model.specs.declared.script.Script.{Script}
 use Rattle.nvm_model.specs.declared.trace.Step.{Step}
-use Rattle.nvm_model.specs.Chain.{Chain}
-use Rattle.nvm_model.specs.History.{faults_shown, has_given_up}
-use Rattle.nvm_model.specs.Medium.{HaveSize, IsAt, MediumState, faults_in, told_in}
+use Rattle.nvm_model.specs.Medium.{MediumState, told_in}
 use Rattle.nvm_model.specs.Shelf.{joined}
-use Rattle.nvm_blocks.specs.Namespace.{NamespaceState, media_of}
+use Rattle.nvm_blocks.specs.Namespace.{media_of}
 use Rattle.nvm_blocks.specs.ShelfState.{ShelfState}
-use Rattle.guest_ram.specs.Window.{WindowState}
 use Rattle.turns.specs.declared.run.RunPhase.TheVariants.{Over}
 use Rattle.turns.specs.declared.run.Side.{Side}
 use Rattle.turns.specs.declared.run.Side.TheVariants.{Source, Destination}
-use Rattle.turns.specs.Run.{IsWritten, SinkState, Snapshot, Stage, Task, by_side, calls_at, lines_in, media_at, memory_of, start_of}
-use Rattle.turns.specs.Told.{HasRun, IsUntouched, Tells, is_source, serial}
-use Rattle.turns.proofs.AskedLaws.{Asks, run_asks}
+use Rattle.turns.specs.Run.{SinkState, Snapshot, Task, by_side, lines_in, memory_of, start_of}
+use Rattle.turns.specs.Told.{Tells, is_source, serial}
+use Rattle.turns.proofs.AskedLaws.{run_asks}
 use Rattle.turns.proofs.EndLaws.{is_untouched}
 use Rattle.turns.proofs.RanLaws.{ran}
 use Rattle.session.specs.declared.ending.Ending.{Ending}
@@ -30,7 +26,7 @@ use Rattle.engine.specs.declared.status.Status.{Status}
 use Rattle.engine.specs.declared.status.Status.TheVariants.{Done, Usage, BadScript, TooLong, OutOfMemory, HostSize, ReadFault, WriteFault, GaveUp}
 use Rattle.engine.specs.Built.{IsTaken, Spells}
 use Rattle.engine.specs.Claims.{OnEnded, OnWriteFault, is_gave_up, is_write_fault}
-use Rattle.engine.specs.Headline.{AreCalled, AreLeft, HasEnded, HasGone, HaveCauses, Hosts, IsRun, IfTold, start}
+use Rattle.engine.specs.Headline.{AreLeft, HasGone, Hosts, IsRun, start}
 use Rattle.engine.specs.Opened.{IsOpened}
 
 -- What a session over two places leaves to the hosts that these were opened of.

@@ -1,4 +1,4 @@
-use Rattle.std.specs.Prelude.{◌≡◌, ℕ, Bool, true, false, List, ◌++◌, Option, Some, None, Result, IfOk, is_err, length}
+use Rattle.std.specs.Prelude.{◌≡◌, ℕ, Bool, false, List, ◌++◌, Option, Some, None, Result, IfOk, is_err, length}
 use Rattle.std.specs.List.{flat_map}
 use Rattle.mig_base.specs.Count.{NeverFall, RiseBy}
 use Rattle.nvm_model.specs.declared.line.Line.{Line}

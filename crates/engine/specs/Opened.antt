@@ -1,8 +1,6 @@
-use Rattle.std.specs.Prelude.{◌≡◌, List}
+use Rattle.std.specs.Prelude.{List}
 use Rattle.nvm_model.specs.declared.script.Head.{Head}
-use Rattle.nvm_model.specs.declared.script.Script.{Script}
 use Rattle.nvm_model.specs.Medium.{HaveSize, MediumState}
-use Rattle.nvm_blocks.specs.Namespace.{media_of}
 use Rattle.session.specs.Opened.{IsNewPlace}
 use Rattle.session.specs.Place.{PlaceState}
 

@@ -1,5 +1,4 @@
-use Rattle.std.proofs.Common.{◌/◌, ◌∙◌, List, ap, refl, replicate}
-use Rattle.nvm_model.specs.declared.script.Head.{Head}
+use Rattle.std.proofs.Common.{ap, refl}
 use Rattle.nvm_model.specs.Medium.{sizes_in}
 use Rattle.engine.specs.declared.status.Status.TheVariants.{Done, GaveUp, WriteFault}
 use Rattle.engine.proofs.SizeLemmas.{has_shelves, has_other_shelves}
