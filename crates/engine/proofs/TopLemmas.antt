@@ -1,236 +1,231 @@
-use Rattle.std.proofs.Common.{◌≡◌, ℕ, Bool, List, [], ◌∷◌, ◌++◌, Option, Some, None, refl, sym, subst, ◌∙◌, arith}
-use Rattle.std.specs.Prelude.{cond}
-use Rattle.std.specs.List.{AllByRecursion}
-use Rattle.std.proofs.lemmas.List.Sums.{sum_by-append}
-use Rattle.mig_base.specs.Count.{RiseBy}
-use Rattle.nvm_model.specs.declared.line.Line.{Line}
-use Rattle.nvm_model.specs.declared.line.Line.TheVariants as line
+use Rattle.std.proofs.Common.{◌≡◌, ℕ, ◌*◌, ◌&&◌, Bool, true, false, List, Option, Some, None, Result, Ok, Err, length, refl, sym, ap, subst, ◌∙◌}
+use Rattle.std.specs.Prelude.{IfOk, is_err}
+use Rattle.std.proofs.lemmas.List.{length-map}
+use Rattle.mig_base.specs.Count.{RisesBy}
+use Rattle.nvm_model.specs.declared.script.Head.{Head}
 use Rattle.nvm_model.specs.declared.script.Script.{Script}
-use Rattle.nvm_model.specs.World.{World, start_world}
-use Rattle.nvm_model.specs.History.{has_given_up, AreEvents, Complete, IsMigration, Reaches, faults_shown, shows_fault}
+use Rattle.nvm_model.specs.declared.trace.Step.{Step}
+use Rattle.nvm_model.specs.Medium.{MediumState, told_in}
 use Rattle.nvm_model.specs.Shelf.{joined}
-use Rattle.nvm_model.specs.Text.{IsLine, text_of}
-use Rattle.nvm_model.specs.Turn.{RunsInTurns, events_in, pieces_in}
+use Rattle.nvm_blocks.specs.Namespace.{media_of}
+use Rattle.nvm_blocks.specs.ShelfState.{ShelfState}
+use Rattle.turns.specs.declared.run.RunPhase.TheVariants.{Over}
+use Rattle.turns.specs.declared.run.Side.{Side}
+use Rattle.turns.specs.declared.run.Side.TheVariants.{Source, Destination}
+use Rattle.turns.specs.Run.{SinkState, Snapshot, Task, by_side, lines_in, memory_of, start_of}
+use Rattle.turns.specs.Told.{Tells, is_source, serial}
+use Rattle.turns.proofs.AskedLaws.{run_asks}
+use Rattle.turns.proofs.EndLaws.{is_untouched}
+use Rattle.turns.proofs.RanLaws.{ran}
 use Rattle.session.specs.declared.ending.Ending.{Ending}
-use Rattle.session.specs.declared.ending.Ending.TheVariants.{Done, GaveUp}
-use Rattle.session.specs.Run.{AreMoving, WholeRun, SidesHold, HasRun, HasStopped, IfTold, body_of, framed}
-use Rattle.turns.proofs.FrameLemmas.{steps_are_events, steps_more, turns_steps}
+use Rattle.session.specs.declared.ending.Ending.TheVariants as ending
+use Rattle.session.specs.Opened.{IsNewPlace, Opens}
+use Rattle.session.specs.Place.{PlaceState, pages_of}
+use Rattle.session.specs.Sides.{Goes, HasEnded as SessionEnded, IsEnding, SessionState, StandsAs, at_side, by_side as stand_by, sides}
+use Rattle.engine.specs.declared.status.Status.{Status}
+use Rattle.engine.specs.declared.status.Status.TheVariants.{Done, Usage, BadScript, TooLong, OutOfMemory, HostSize, ReadFault, WriteFault, GaveUp}
 use Rattle.engine.specs.Built.{IsTaken, Spells}
-use Rattle.engine.specs.declared.top.Stop.{Stop}
-use Rattle.engine.specs.declared.top.Stop.TheVariants.{Failed, NoMemory}
-use Rattle.engine.specs.Ended.{gives_up, Media, HasEnded, HasBroken, OnFailed}
-use Rattle.engine.specs.Headline.{Run, Ran, Began, HoldMoved, HostsHold}
-use Rattle.engine.proofs.HistoryLemmas.{events_are, whole_lines, given_up_is, resumed, not_resumed, stayed_unresumed, given_up_unresumed}
+use Rattle.engine.specs.Claims.{OnEnded, OnWriteFault, is_gave_up, is_write_fault}
+use Rattle.engine.specs.Headline.{AreLeft, HasGone, Hosts, IsRun, start}
+use Rattle.engine.specs.Opened.{IsOpened}
 
--- A whole run is a run of the script, in turns.
+-- What a session over two places leaves to the hosts that these were opened of.
 
-migrates : (s : Script) (wish : Option ℕ) (ending : Ending) (lines : List Line) → AreMoving s wish ending lines → IsMigration wish lines
-migrates s None Done lines are = are
-migrates s None GaveUp lines are = absurd are
-migrates s (Some turn) Done lines are = record { rounds = []; ending = _; lines_are = are; are_rounds = tt; is_ending = tt }
-migrates s (Some turn) GaveUp lines are = record { rounds = []; ending = _; lines_are = are; are_rounds = tt; is_ending = tt }
+-- the hosts got these places' media and memory
+pub record AreGiven {M : Type 0} (source destination : PlaceState M) (sent : SinkState) (new : Hosts M) : Type 0 where
+  pub from : new.from ≡ media_of source.namespace
+  pub to : new.to ≡ media_of destination.namespace
+  pub from_ram : new.from_ram ≡ source.windows
+  pub to_ram : new.to_ram ≡ destination.windows
+  pub out : new.out ≡ sent
 
--- a whole run from a script's start over these blocks
-abbrev Whole : Script → List (List ℕ) → Ending → Type 0
-Whole s blocks ending = WholeRun s (start_world s.head blocks) ending
+record Left {M : Type 0} (session : SessionState) (end : Snapshot M) (new : Hosts M) : Type 0 where
+  left : AreLeft end new
+  task : end.task ≡ serial session.script
+  phase : end.phase ≡ session.phase
+  side : end.side ≡ session.side
 
-abbrev lines_of : (s : Script) (blocks : List (List ℕ)) (ending : Ending) → Whole s blocks ending → List Line
-lines_of s blocks ending run = framed (body_of s (start_world s.head blocks) ending run)
+left_by : {M : Type 0} (side : Side) {session : SessionState} {from to : PlaceState M} {out : SinkState} {end : Snapshot M} {new : Hosts M} → session.side ≡ side →
+    StandsAs (at_side side (sides session from to out) (sides session to from out)) end → AreGiven from to out new → Left session end new
+left_by {M} Source {end = end} {new} is stands given =
+    let side = stands.side ∙ is in
+    let memory = memory_of end.task.script end.lanes in
+    record {
+      left = record {
+        from = given.from ∙ sym stands.lanes.media ∙ sym (ap (λ (k : Side). by_side Source k end.at end.other) side);
+        to = given.to ∙ sym stands.other ∙ sym (ap (λ (k : Side). by_side Destination k end.at end.other) side);
+        from_memory = ap pages_of given.from_ram ∙ sym stands.memory ∙ sym (ap (λ (k : Side). by_side Source k memory end.left) side);
+        to_memory = ap pages_of given.to_ram ∙ sym stands.left ∙ sym (ap (λ (k : Side). by_side Destination k memory end.left) side);
+        out = given.out ∙ sym stands.out;
+      };
+      task = stands.task;
+      phase = stands.phase;
+      side = stands.side;
+    }
+left_by {M} Destination {end = end} {new} is stands given =
+    let side = stands.side ∙ is in
+    let memory = memory_of end.task.script end.lanes in
+    record {
+      left = record {
+        from = given.from ∙ sym stands.other ∙ sym (ap (λ (k : Side). by_side Source k end.at end.other) side);
+        to = given.to ∙ sym stands.lanes.media ∙ sym (ap (λ (k : Side). by_side Destination k end.at end.other) side);
+        from_memory = ap pages_of given.from_ram ∙ sym stands.left ∙ sym (ap (λ (k : Side). by_side Source k memory end.left) side);
+        to_memory = ap pages_of given.to_ram ∙ sym stands.memory ∙ sym (ap (λ (k : Side). by_side Destination k memory end.left) side);
+        out = given.out ∙ sym stands.out;
+      };
+      task = stands.task;
+      phase = stands.phase;
+      side = stands.side;
+    }
 
--- the turns before a move reach the world then
-reaches_mid : (s : Script) (blocks : List (List ℕ)) (ending : Ending) (run : Whole s blocks ending) → Reaches s blocks (events_in run.before) run.mid
-reaches_mid s blocks ending run = turns_steps s 0 (start_world s.head blocks) run.before run.mid run.are_before
+is_over : {E : Type 0} (session : SessionState) (result : Result Ending E) → IfOk result (λ e. SessionEnded e session) → is_err result ≡ false → session.phase ≡ Over
+is_over session (Ok e) ended is = ended.over
+is_over session (Err e) ended is = absurd cc
 
-before_events : (s : Script) (blocks : List (List ℕ)) (ending : Ending) (run : Whole s blocks ending) → AreEvents (events_in run.before)
-before_events s blocks ending run = steps_are_events s (start_world s.head blocks) (events_in run.before) run.mid (reaches_mid s blocks ending run)
+ends_so : {E : Type 0} (session : SessionState) {asked : Option ℕ} {side : Side} (result : Result Ending E) → session.script.head.migrate ≡ asked → session.side ≡ side → IfOk result (λ e. SessionEnded e session) → IfOk result (λ e. IsEnding asked side e)
+ends_so session (Ok e) asked is ended = rw (← asked, ← is) ended.ended
+ends_so session (Err e) asked is ended = tt
 
-after_events : (s : Script) (blocks : List (List ℕ)) (ending : Ending) (run : Whole s blocks ending) → AreEvents (events_in run.after)
-after_events s blocks ending run =
-    steps_are_events s run.mid (events_in run.after) run.new (turns_steps s (pieces_in (events_in run.before)) run.mid run.after run.new run.are_after)
+pub gone : {M I E : Type 0} {state : M → MediumState I} {moves : I → Step → Bool → I → Type 0} {session : SessionState} (new_session : SessionState) {source destination new_source new_destination : PlaceState M} {out sent : SinkState} {result : Result Ending E} {new : Hosts M} →
+    Opens session (media_of source.namespace) (media_of destination.namespace) source destination →
+    Goes state moves (sides session source destination out) (is_err result) (stand_by new_session new_source new_destination sent) → IfOk result (λ e. SessionEnded e new_session) → AreGiven new_source new_destination sent new →
+    HasGone state moves (start_of (serial session.script) (media_of source.namespace) (media_of destination.namespace) out) result new
+gone {state = state} {moves} {session} new_session {source} {destination} {out = out} {result = result} opens goes ended given =
+    let from = start_of (serial session.script) (media_of source.namespace) (media_of destination.namespace) out in
+    let to = goes from (opens.stands out) in
+    let at = left_by new_session.side refl to.stands given in
+    let asks = run_asks state moves from to.went.stages to.end refl refl refl to.went.run in
+    record {
+      end = to.end;
+      ran = ran to.went (λ is. at.phase ∙ is_over new_session result ended is);
+      left = at.left;
+      over = λ is. at.phase ∙ is_over new_session result ended is;
+      ending = ends_so new_session result (ap (λ (k : Task). k.script.head.migrate) (sym at.task ∙ asks.same)) (sym at.side) ended;
+    }
 
--- all turns reach the world at the end
-reaches_end : (s : Script) (blocks : List (List ℕ)) (ending : Ending) (run : Whole s blocks ending) → Reaches s blocks (events_in run.before ++ events_in run.after) run.new
-reaches_end s blocks ending run =
-    steps_more s (start_world s.head blocks) run.mid run.new (events_in run.before) (events_in run.after) (reaches_mid s blocks ending run)
-    (turns_steps s (pieces_in (events_in run.before)) run.mid run.after run.new run.are_after)
+-- What is said of a run at the top.
 
-abbrev run_of : (input : Option (List ℕ)) (s : Script) (blocks : List (List ℕ)) (ending : Ending) → IsTaken s → Spells input s → (run : Whole s blocks ending) → AllByRecursion IsLine (lines_of s blocks ending run) →
-    Run input blocks (text_of (lines_of s blocks ending run))
-run_of input s blocks ending taken spelled run lines =
-    let before = events_in run.before in
-    let after = events_in run.after in
-    let first = before_events s blocks ending run in
-    let second = after_events s blocks ending run in
+-- whether a run gave its migration up
+abbrev pub gives_up : Ending → Bool
+gives_up ending.Done = false
+gives_up ending.GaveUp = true
+
+-- an answer for a result
+pub record IsAnswer {E : Type 0} (result : Result Ending E) (status : Status) : Type 0 where
+  pub failed : is_err result ≡ is_write_fault status
+  pub gave_up : IfOk result (λ e. gives_up e ≡ is_gave_up status)
+
+on_ended : (status : Status) {claim : Type 0} → (is_write_fault status ≡ false → claim) → OnEnded status claim
+on_ended Done f = f refl
+on_ended GaveUp f = f refl
+on_ended Usage f = tt
+on_ended (BadScript line why) f = tt
+on_ended TooLong f = tt
+on_ended OutOfMemory f = tt
+on_ended (HostSize kept asked) f = tt
+on_ended ReadFault f = tt
+on_ended WriteFault f = tt
+
+on_write_fault : (status : Status) {claim : Type 0} → (is_write_fault status ≡ true → claim) → OnWriteFault status claim
+on_write_fault WriteFault f = f refl
+on_write_fault Done f = tt
+on_write_fault GaveUp f = tt
+on_write_fault Usage f = tt
+on_write_fault (BadScript line why) f = tt
+on_write_fault TooLong f = tt
+on_write_fault OutOfMemory f = tt
+on_write_fault (HostSize kept asked) f = tt
+on_write_fault ReadFault f = tt
+
+-- a migration was given up where one was begun and the guests are at the source
+given_up : (tried : Bool) (asked : Option ℕ) (side : Side) (e : Ending) → (asked ≡ None → tried ≡ false) → (tried ≡ false → (turn : ℕ) → asked ≡ Some turn → ⊥) → IsEnding asked side e → (tried && is_source side) ≡ gives_up e
+given_up tried None side ending.Done none some is = ap (λ (b : Bool). b && is_source side) (none refl)
+given_up tried None side ending.GaveUp none some is = absurd is
+given_up true (Some turn) Source ending.GaveUp none some is = refl
+given_up false (Some turn) Source ending.GaveUp none some is = absurd (some refl turn refl)
+given_up tried (Some turn) Source ending.Done none some is = absurd is
+given_up true (Some turn) Destination ending.Done none some is = refl
+given_up false (Some turn) Destination ending.Done none some is = refl
+given_up tried (Some turn) Destination ending.GaveUp none some is = absurd is
+
+answered : {E : Type 0} {tried : Bool} {asked : Option ℕ} (side : Side) (status : Status) (result : Result Ending E) → is_err result ≡ false → (asked ≡ None → tried ≡ false) → (tried ≡ false → (turn : ℕ) → asked ≡ Some turn → ⊥) →
+    IfOk result (λ e. IsEnding asked side e) → IfOk result (λ e. gives_up e ≡ is_gave_up status) → (tried && is_source side) ≡ is_gave_up status
+answered {tried = tried} {asked} side status (Ok e) ok none some is same = given_up tried asked side e none some is ∙ same
+answered side status (Err e) ok none some is same = absurd cc
+
+not_tried : (tried : Bool) (asked : Option ℕ) → (tried ≡ true → (turn : ℕ) × (asked ≡ Some turn)) → asked ≡ None → tried ≡ false
+not_tried false asked begun none = refl
+not_tried true asked begun none = let b = begun refl in absurd cc
+
+-- a host's media are as many as the script's shelves
+pub count_is : {M I : Type 0} {state : M → MediumState I} {head : Head} {media : List M} {place : PlaceState M} → IsOpened state head media place → length media * head.shelf ≡ head.blocks
+count_is {M} {head = head} {media} {place} o =
+    let n = place.namespace in
+    let many : length media ≡ length n.shelves = ap (λ (l : List M). length l) (sym o.opened.media_are) ∙ length-map n.shelves (λ (s : ShelfState M). s.medium) in
+    ap (λ (k : ℕ). k * head.shelf) many ∙ ap (λ (k : ℕ). length n.shelves * k) (sym o.opened.namespace.shelf) ∙ o.opened.namespace.blocks
+
+tells : {M I : Type 0} {state : M → MediumState I} {s : Script} (old : Hosts M) {source destination : PlaceState M} → IsTaken s → IsOpened state s.head old.from source → IsOpened state s.head old.to destination →
+    (blocks others : List (List ℕ)) → joined (told_in state old.from) ≡ Some blocks → joined (told_in state old.to) ≡ Some others → Tells state s blocks (start s old)
+tells old taken from to blocks others told to_told = record {
+  script = taken.script;
+  start = refl;
+  source = record { sizes = from.sizes; count = count_is from; told = told };
+  others = others;
+  destination = record { sizes = to.sizes; count = count_is to; told = to_told };
+}
+
+run_of : {M I E : Type 0} {state : M → MediumState I} {moves : I → Step → Bool → I → Type 0} {input : Option (List ℕ)} {s : Script} {old new : Hosts M} {source destination : PlaceState M} {result : Result Ending E} (status : Status) →
+    IsTaken s → Spells input s → IsOpened state s.head old.from source → IsOpened state s.head old.to destination → HasGone state moves (start s old) result new → IsAnswer result status → IsRun state moves input old status new
+run_of {M} {I} {E} {state} {moves} {input} {s} {old} {new} {result = result} status taken spelled from to g answer =
+    let stages = g.ran.stages in
+    let lines = lines_in s stages in
+    let asks = run_asks state moves (start s old) stages g.end refl refl refl g.ran.run in
+    let none = λ (e : s.head.migrate ≡ None). not_tried g.end.tried g.end.task.script.head.migrate asks.asked (ap (λ (k : Task). k.script.head.migrate) asks.same ∙ e) in
+    let source_sizes = g.ran.sizes Source s.head.shelf from.sizes in
+    let destination_sizes = g.ran.sizes Destination s.head.shelf to.sizes in
     record {
       script = s;
       taken = taken;
       spelled = spelled;
-      lines = lines_of s blocks ending run;
-      transcript = record { text_is = refl; are_lines = lines };
-      whole = record {
-        before = before;
-        migration = run.moving;
-        after = after;
-        lines_are = whole_lines before run.moving after;
-        before_events = first;
-        is_migration = migrates s s.head.migrate ending run.moving run.are_moving;
-        after_events = second;
+      stages = stages;
+      end = g.end;
+      run = g.ran.run;
+      left = g.left;
+      text = rw (← answer.failed, g.left.out) g.ran.text;
+      media = record {
+        source = rw g.left.from g.ran.source;
+        destination = rw g.left.to g.ran.destination;
+        source_sizes = rw g.left.from source_sizes;
+        destination_sizes = rw g.left.to destination_sizes;
       };
-      world = run.new;
-      legal = subst (λ (es : List Line). Reaches s blocks es run.new) (sym (events_are s s.head.migrate ending before run.moving after first run.are_moving second)) (reaches_end s blocks ending run);
+      faults = record { never_fell = rw (g.left.from, g.left.to) g.ran.never_fell; causes = rw (g.left.from, g.left.to) g.ran.causes };
+      unmoved = λ e. let stays = asks.stays (none e) in is_untouched (start s old) g.end refl stays.0 stays.1 stays.2;
+      ended = on_ended status (λ is blocks others told to_told.
+          let r = g.ran.ended (answer.failed ∙ is) s blocks (tells old taken from to blocks others told to_told) in
+          record {
+            world = r.world;
+            history = record { transcript = record { text_is = refl; are_lines = r.are_lines }; whole = r.whole; legal = r.legal };
+            turns = r.turns;
+            complete = r.complete;
+            hosts = r.sides;
+            gave_up = r.gave_up ∙ answered g.end.side status result (answer.failed ∙ is) none (λ n turn e. asks.over (g.over (answer.failed ∙ is)) n turn (ap (λ (k : Task). k.script.head.migrate) asks.same ∙ e)) g.ending answer.gave_up;
+          });
+      sink = on_write_fault status (λ is blocks others told to_told. g.ran.stopped (answer.failed ∙ is) s blocks (tells old taken from to blocks others told to_told));
     }
 
-abbrev in_turns : (s : Script) (blocks : List (List ℕ)) (ending : Ending) (run : Whole s blocks ending) → RunsInTurns s blocks (lines_of s blocks ending run) run.new
-in_turns s blocks ending run = record {
-  before = run.before;
-  migration = run.moving;
-  after = run.after;
-  lines_are = whole_lines (events_in run.before) run.moving (events_in run.after);
-  is_migration = migrates s s.head.migrate ending run.moving run.are_moving;
-  mid = run.mid;
-  turns_before = run.are_before;
-  begins = run.begins;
-  turns_after = run.are_after;
-}
+-- the same of the places that the hosts were opened as
+pub is_run : {M I E : Type 0} {state : M → MediumState I} {moves : I → Step → Bool → I → Type 0} {input : Option (List ℕ)} {s : Script} {head : Head} {old new : Hosts M} {source destination : PlaceState M} {result : Result Ending E} (status : Status) →
+    IsTaken s → Spells input s → head ≡ s.head → IsOpened state head old.from source → IsOpened state head old.to destination →
+    HasGone state moves (start_of (serial s) (media_of source.namespace) (media_of destination.namespace) old.out) result new → IsAnswer result status → IsRun state moves input old status new
+is_run {M} {state = state} {moves} {s = s} {head} {old} {new} {source} {destination} {result} status taken spelled same from to g answer =
+    run_of status taken spelled (subst (λ (h : Head). IsOpened state h old.from source) same from) (subst (λ (h : Head). IsOpened state h old.to destination) same to)
+    (rw (← from.opened.media_are, ← to.opened.media_are) g) answer
 
--- What is known of a run that ended.
+-- a place is a new one for its script
+pub new_place : {M I : Type 0} {state : M → MediumState I} {head other : Head} {media : List M} {place : PlaceState M} → head ≡ other → IsOpened state head media place → IsNewPlace other (media_of place.namespace) place
+new_place {M} {place = place} same o = subst (λ (h : Head). IsNewPlace h (media_of place.namespace) place) same
+    (record { namespace = o.opened.namespace; media_are = refl; windows = o.opened.windows; controller = o.opened.controller })
 
-abbrev Shelves : Type 0
-Shelves = List (Option (List (List ℕ)))
-
-abbrev Memory : Type 0
-Memory = List (List (List ℕ))
-
-pub record Facts (s : Script) (ending : Ending) (blocks : List (List ℕ)) (from to : List ℕ) (new_from : Media) (from_memory : Memory) (new_to : Media) (to_memory : Memory) (lines : List Line) (w : World) : Type 0 where
-  pub turns : RunsInTurns s blocks lines w
-  pub complete : Complete s w
-  pub gave_up : has_given_up lines ≡ gives_up ending
-  pub rose : RiseBy (faults_shown lines) (from ++ to) (new_from.faults ++ new_to.faults)
-  pub hosts : HostsHold s blocks lines w new_from.shelves from_memory new_to.shelves to_memory
-
--- the hosts hold what they are to hold
-hosts_hold : (s : Script) (blocks : List (List ℕ)) (ending : Ending) (run : Whole s blocks ending) (wish : Option ℕ) (from : Shelves) (from_memory : Memory) (to : Shelves) (to_memory : Memory) →
-    AreMoving s wish ending run.moving → SidesHold s wish ending run.mid run.new (joined from) from_memory (joined to) to_memory →
-    HostsHold s blocks (lines_of s blocks ending run) run.new from from_memory to to_memory
-hosts_hold s blocks Done run None from from_memory to to_memory are holds =
-    let first = before_events s blocks Done run in
-    let second = after_events s blocks Done run in
-    subst (λ (o : Option (List Line)). HoldMoved o s blocks run.new from from_memory to to_memory)
-    (sym (not_resumed s (events_in run.before) run.moving (events_in run.after) first second (stayed_unresumed (events_in run.after) run.moving second are)))
-    (record { blocks = holds.0; memory_is = holds.1 })
-hosts_hold s blocks GaveUp run None from from_memory to to_memory are holds = absurd are
-hosts_hold s blocks GaveUp run (Some turn) from from_memory to to_memory are holds =
-    let first = before_events s blocks GaveUp run in
-    let second = after_events s blocks GaveUp run in
-    subst (λ (o : Option (List Line)). HoldMoved o s blocks run.new from from_memory to to_memory)
-    (sym (not_resumed s (events_in run.before) run.moving (events_in run.after) first second (given_up_unresumed s (events_in run.after) run.moving second are)))
-    (record { blocks = holds.0; memory_is = holds.1 })
-hosts_hold s blocks Done run (Some turn) from from_memory to to_memory are holds =
-    subst (λ (o : Option (List Line)). HoldMoved o s blocks run.new from from_memory to to_memory)
-    (sym (resumed s (events_in run.before) run.moving (events_in run.after) (before_events s blocks Done run) are))
-    (run.mid, reaches_mid s blocks Done run, record { blocks = holds.0; memory_is = holds.1 }, record { blocks = holds.2; memory_is = holds.3 })
-
--- faults are shown between the first two lines and the last alone
-framed_faults : (body : List Line) → faults_shown (framed body) ≡ faults_shown body
-framed_faults body = let more = sum_by-append (λ (l : Line). cond (shows_fault l) 1 0) body (line.End ∷ []) in omega (arith, more)
-
-abbrev facts_of : (s : Script) (ending : Ending) (blocks : List (List ℕ)) (from to : List ℕ) (new_from : Media) (from_memory : Memory) (new_to : Media) (to_memory : Memory) (run : Whole s blocks ending) →
-    SidesHold s s.head.migrate ending run.mid run.new (joined new_from.shelves) from_memory (joined new_to.shelves) to_memory →
-    RiseBy (faults_shown (body_of s (start_world s.head blocks) ending run)) (from ++ to) (new_from.faults ++ new_to.faults) →
-    Facts s ending blocks from to new_from from_memory new_to to_memory (lines_of s blocks ending run) run.new
-facts_of s ending blocks from to new_from from_memory new_to to_memory run holds causes =
-    let first = before_events s blocks ending run in
-    let second = after_events s blocks ending run in
-    record {
-      turns = in_turns s blocks ending run;
-      complete = run.complete;
-      gave_up = given_up_is s s.head.migrate ending (events_in run.before) run.moving (events_in run.after) first run.are_moving second;
-      rose = subst (λ (n : ℕ). RiseBy n (from ++ to) (new_from.faults ++ new_to.faults)) (sym (framed_faults (body_of s (start_world s.head blocks) ending run))) causes;
-      hosts = hosts_hold s blocks ending run s.head.migrate new_from.shelves from_memory new_to.shelves to_memory run.are_moving holds;
-    }
-
-told_ran : (P : Script → List (List ℕ) → List Line → World → Type 0) (input : Option (List ℕ)) (s : Script) (ending : Ending) (told to_told : Option (List (List ℕ))) (from to : List ℕ) (bytes : Option (List ℕ)) (new_from : Media) (from_memory : Memory) (new_to : Media) (to_memory : Memory) (new_bytes : Option (List ℕ)) →
-    IsTaken s → Spells input s → IfTold told to_told (HasRun s ending from to bytes (joined new_from.shelves) from_memory (joined new_to.shelves) to_memory new_from.faults new_to.faults new_bytes) →
-    ((blocks : List (List ℕ)) (lines : List Line) (w : World) → Facts s ending blocks from to new_from from_memory new_to to_memory lines w → P s blocks lines w) → Ran input told to_told bytes new_bytes P
-told_ran P input s ending None to_told from to bytes new_from from_memory new_to to_memory new_bytes taken spelled x give = tt
-told_ran P input s ending (Some blocks) None from to bytes new_from from_memory new_to to_memory new_bytes taken spelled x give = tt
-told_ran P input s ending (Some blocks) (Some other) from to None new_from from_memory new_to to_memory new_bytes taken spelled x give = tt
-told_ran P input s ending (Some blocks) (Some other) from to (Some before) new_from from_memory new_to to_memory new_bytes taken spelled x give = (
-  text_of (lines_of s blocks ending x.run),
-  x.text,
-  run_of input s blocks ending taken spelled x.run x.lines,
-  give blocks (lines_of s blocks ending x.run) x.run.new (facts_of s ending blocks from to new_from from_memory new_to to_memory x.run x.holds x.causes),
-)
-
-told_began : (P : Script → List (List ℕ) → List Line → World → Type 0) (input : Option (List ℕ)) (s : Script) (told to_told : Option (List (List ℕ))) (from to : List ℕ) (bytes : Option (List ℕ)) (new_from new_to : Media) (new_bytes : Option (List ℕ)) →
-    IsTaken s → Spells input s → IfTold told to_told (HasStopped s from to bytes to_told (joined new_from.shelves) (joined new_to.shelves) new_from.faults new_to.faults new_bytes) →
-    ((blocks : List (List ℕ)) (lines : List Line) (w : World) → Complete s w → RiseBy (faults_shown lines) (from ++ to) (new_from.faults ++ new_to.faults) → P s blocks lines w) →
-    Began input told to_told bytes new_bytes (joined new_from.shelves) (joined new_to.shelves) P
-told_began P input s None to_told from to bytes new_from new_to new_bytes taken spelled x give = tt
-told_began P input s (Some blocks) None from to bytes new_from new_to new_bytes taken spelled x give = tt
-told_began P input s (Some blocks) (Some other) from to None new_from new_to new_bytes taken spelled x give = tt
-told_began P input s (Some blocks) (Some other) from to (Some before) new_from new_to new_bytes taken spelled x give = (
-  text_of (lines_of s blocks x.ending x.run),
-  run_of input s blocks x.ending taken spelled x.run x.lines,
-  in_turns s blocks x.ending x.run,
-  x.stops,
-  give blocks (lines_of s blocks x.ending x.run) x.run.new x.run.complete
-      (subst (λ (n : ℕ). RiseBy n (from ++ to) (new_from.faults ++ new_to.faults)) (sym (framed_faults (body_of s (start_world s.head blocks) x.ending x.run))) x.causes),
-)
-
--- What holds of a run that ended, and of one that stopped.
-
--- what is known of a run that ended
-pub record Told (input : Option (List ℕ)) (s : Script) (ending : Ending) (from to : Media) (bytes : Option (List ℕ)) (new_from new_to : Media) (from_memory to_memory : Memory) (new_bytes : Option (List ℕ)) : Type 0 where
-  pub taken : IsTaken s
-  pub spelled : Spells input s
-  pub ended : HasEnded s ending from to bytes new_from new_to from_memory to_memory new_bytes
-
-ended_ran : (P : Script → List (List ℕ) → List Line → World → Type 0) {input : Option (List ℕ)} {s : Script} {ending : Ending} {from to : Media} {bytes : Option (List ℕ)} {new_from new_to : Media} {from_memory to_memory : Memory} {new_bytes : Option (List ℕ)} →
-    Told input s ending from to bytes new_from new_to from_memory to_memory new_bytes →
-    ((blocks : List (List ℕ)) (lines : List Line) (w : World) → Facts s ending blocks from.faults to.faults new_from from_memory new_to to_memory lines w → P s blocks lines w) →
-    Ran input (joined from.shelves) (joined to.shelves) bytes new_bytes P
-ended_ran P {input} {s} {ending} {from} {to} {bytes} {new_from} {new_to} {from_memory} {to_memory} {new_bytes} t give =
-    told_ran P input s ending (joined from.shelves) (joined to.shelves) from.faults to.faults bytes new_from from_memory new_to to_memory new_bytes t.taken t.spelled t.ended.run give
-
-pub history : {input : Option (List ℕ)} {s : Script} {ending : Ending} {from to : Media} {bytes : Option (List ℕ)} {new_from new_to : Media} {from_memory to_memory : Memory} {new_bytes : Option (List ℕ)} →
-    Told input s ending from to bytes new_from new_to from_memory to_memory new_bytes → Ran input (joined from.shelves) (joined to.shelves) bytes new_bytes (λ script blocks lines world. Unit {0})
-history t = ended_ran (λ script blocks lines world. Unit {0}) t (λ blocks lines w facts. tt)
-
-pub turns : {input : Option (List ℕ)} {s : Script} {ending : Ending} {from to : Media} {bytes : Option (List ℕ)} {new_from new_to : Media} {from_memory to_memory : Memory} {new_bytes : Option (List ℕ)} →
-    Told input s ending from to bytes new_from new_to from_memory to_memory new_bytes → Ran input (joined from.shelves) (joined to.shelves) bytes new_bytes (λ script blocks lines world. RunsInTurns script blocks lines world)
-turns t = ended_ran (λ script blocks lines world. RunsInTurns script blocks lines world) t (λ blocks lines w facts. facts.turns)
-
-pub complete : {input : Option (List ℕ)} {s : Script} {ending : Ending} {from to : Media} {bytes : Option (List ℕ)} {new_from new_to : Media} {from_memory to_memory : Memory} {new_bytes : Option (List ℕ)} →
-    Told input s ending from to bytes new_from new_to from_memory to_memory new_bytes → Ran input (joined from.shelves) (joined to.shelves) bytes new_bytes (λ script blocks lines world. Complete script world)
-complete t = ended_ran (λ script blocks lines world. Complete script world) t (λ blocks lines w facts. facts.complete)
-
-pub hosts : {input : Option (List ℕ)} {s : Script} {ending : Ending} {from to : Media} {bytes : Option (List ℕ)} {new_from new_to : Media} {from_memory to_memory : Memory} {new_bytes : Option (List ℕ)} →
-    Told input s ending from to bytes new_from new_to from_memory to_memory new_bytes →
-    Ran input (joined from.shelves) (joined to.shelves) bytes new_bytes (λ script blocks lines world. HostsHold script blocks lines world new_from.shelves from_memory new_to.shelves to_memory)
-hosts {new_from} {new_to} {from_memory} {to_memory} t =
-    ended_ran (λ script blocks lines world. HostsHold script blocks lines world new_from.shelves from_memory new_to.shelves to_memory) t (λ blocks lines w facts. facts.hosts)
-
-pub rose : {input : Option (List ℕ)} {s : Script} {ending : Ending} {from to : Media} {bytes : Option (List ℕ)} {new_from new_to : Media} {from_memory to_memory : Memory} {new_bytes : Option (List ℕ)} →
-    Told input s ending from to bytes new_from new_to from_memory to_memory new_bytes →
-    Ran input (joined from.shelves) (joined to.shelves) bytes new_bytes (λ script blocks lines world. RiseBy (faults_shown lines) (from.faults ++ to.faults) (new_from.faults ++ new_to.faults))
-rose {from} {to} {new_from} {new_to} t =
-    ended_ran (λ script blocks lines world. RiseBy (faults_shown lines) (from.faults ++ to.faults) (new_from.faults ++ new_to.faults)) t (λ blocks lines w facts. facts.rose)
-
-pub gave_up : {input : Option (List ℕ)} {s : Script} {ending : Ending} {from to : Media} {bytes : Option (List ℕ)} {new_from new_to : Media} {from_memory to_memory : Memory} {new_bytes : Option (List ℕ)} {b : Bool} →
-    Told input s ending from to bytes new_from new_to from_memory to_memory new_bytes → gives_up ending ≡ b → Ran input (joined from.shelves) (joined to.shelves) bytes new_bytes (λ script blocks lines world. has_given_up lines ≡ b)
-gave_up {b} t is = ended_ran (λ script blocks lines world. has_given_up lines ≡ b) t (λ blocks lines w facts. facts.gave_up ∙ is)
-
--- what holds where the sink failed
-pub if_failed : (stop : Stop) (claim : Type 0) → stop ≡ Failed → OnFailed stop claim → claim
-if_failed Failed claim is holds = holds
-if_failed NoMemory claim is holds = cc
-
--- and of one that stopped
-pub began : (input : Option (List ℕ)) {s : Script} {from to : Media} {bytes : Option (List ℕ)} {new_from new_to : Media} {new_bytes : Option (List ℕ)} →
-    IsTaken s → Spells input s → HasBroken s from to bytes new_from new_to new_bytes →
-    Began input (joined from.shelves) (joined to.shelves) bytes new_bytes (joined new_from.shelves) (joined new_to.shelves)
-    (λ script blocks lines world. Complete script world × RiseBy (faults_shown lines) (from.faults ++ to.faults) (new_from.faults ++ new_to.faults))
-began input {s} {from} {to} {bytes} {new_from} {new_to} {new_bytes} taken spelled h =
-    told_began (λ script blocks lines world. Complete script world × RiseBy (faults_shown lines) (from.faults ++ to.faults) (new_from.faults ++ new_to.faults))
-    input s (joined from.shelves) (joined to.shelves) from.faults to.faults bytes new_from new_to new_bytes taken spelled h.run (λ blocks lines w complete rises. (complete, rises))
+-- the output's count rose where it failed
+pub rises : {M I E : Type 0} {state : M → MediumState I} {moves : I → Step → Bool → I → Type 0} {from : Snapshot M} {result : Result Ending E} {new : Hosts M} → HasGone state moves from result new → is_err result ≡ true → RisesBy 1 from.out.faults new.out.faults
+rises {from = from} g failed = subst (λ (o : SinkState). RisesBy 1 from.out.faults o.faults) (sym g.left.out) (g.ran.rose failed)

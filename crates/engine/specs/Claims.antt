@@ -3,6 +3,7 @@ use Rattle.mig_base.specs.Count.{RisesBy}
 use Rattle.nvm_model.specs.declared.script.Script.{Script}
 use Rattle.nvm_model.specs.ScriptText.{IsScript}
 use Rattle.mig_base.specs.Stream.{IsCut, with_more}
+use Rattle.guest_ram.specs.declared.host.Host.{Host}
 use Rattle.script.specs.BadLine.{IsBadLine}
 use Rattle.script.specs.declared.refusal.Why.{Why}
 use Rattle.show.specs.ShowText.{show_text}
@@ -70,6 +71,23 @@ OnWriteFault ReadFault claim = Unit {0}
 abbrev pub is_gave_up : Status → Bool
 is_gave_up GaveUp = true
 is_gave_up _ = false
+
+-- the answer of a call whose output failed
+abbrev pub is_write_fault : Status → Bool
+is_write_fault WriteFault = true
+is_write_fault _ = false
+
+-- of a call that began a run
+abbrev pub OnRun : Status → Type 0 → Type 0
+OnRun Done claim = claim
+OnRun GaveUp claim = claim
+OnRun WriteFault claim = claim
+OnRun Usage claim = Unit {0}
+OnRun (BadScript line why) claim = Unit {0}
+OnRun TooLong claim = Unit {0}
+OnRun OutOfMemory claim = Unit {0}
+OnRun (HostSize kept asked) claim = Unit {0}
+OnRun ReadFault claim = Unit {0}
 
 -- `Usage` exactly where the words are no form
 abbrev pub IsUsage : List (List ℕ) → Status → Type 0
@@ -196,6 +214,10 @@ OnRefused TooLong claim = claim
 OnRefused OutOfMemory claim = claim
 OnRefused (HostSize kept asked) claim = claim
 OnRefused ReadFault claim = claim
+
+-- a host's media and its memory are as they were
+abbrev pub IsAsBefore : {M : Type 0} → Host M → Host M → Type 0
+IsAsBefore old new = (new.shelves.items ≡ old.shelves.items) × (new.ram ≡ old.ram)
 
 abbrev pub IsBeforeRun : Status → Type 0
 IsBeforeRun Done = ⊥

@@ -1,64 +1,118 @@
-use Rattle.std.specs.Prelude.{◌≡◌, ℕ, List, ◌++◌, Option, Some, None, map}
+use Rattle.std.specs.Prelude.{◌≡◌, ℕ, Bool, false, List, ◌++◌, Option, Some, None, Result, IfOk, is_err, length}
+use Rattle.std.specs.List.{flat_map}
+use Rattle.mig_base.specs.Count.{NeverFall, RiseBy}
 use Rattle.nvm_model.specs.declared.line.Line.{Line}
 use Rattle.nvm_model.specs.declared.script.Script.{Script}
-use Rattle.nvm_model.specs.declared.script.Head.{Head}
-use Rattle.nvm_model.specs.Ring.{lane_windows}
+use Rattle.nvm_model.specs.declared.trace.Step.{Step}
+use Rattle.nvm_model.specs.Chain.{Chain}
+use Rattle.nvm_model.specs.History.{Complete, IsWhole, Reaches, events_before_resume, events_of, faults_shown, has_given_up}
+use Rattle.nvm_model.specs.Medium.{HaveSize, IsAt, MediumState, faults_in, told_in}
 use Rattle.nvm_model.specs.Shelf.{joined}
-use Rattle.nvm_model.specs.World.{World}
-use Rattle.guest_ram.specs.Window.{WindowState}
-use Rattle.nvm_model.specs.History.{events_of, events_before_resume, Reaches, IsWhole}
-use Rattle.nvm_model.specs.Stop.{StopsAt}
-use Rattle.nvm_model.specs.Text.{IsTranscript}
+use Rattle.nvm_model.specs.Text.{IsTranscript, text_of}
 use Rattle.nvm_model.specs.Turn.{RunsInTurns}
+use Rattle.nvm_model.specs.World.{World}
+use Rattle.guest_ram.specs.declared.host.Host.{Host}
+use Rattle.guest_ram.specs.Window.{WindowState}
+use Rattle.turns.specs.declared.run.RunPhase.TheVariants.{Over}
+use Rattle.turns.specs.declared.run.Side.TheVariants.{Source, Destination}
+use Rattle.turns.specs.Ran.{Ran}
+use Rattle.turns.specs.Run.{IsStage, IsWritten, SinkState, Snapshot, Stage, calls_at, lines_in, media_at, memory_at, start_of}
+use Rattle.turns.specs.Told.{HasStopped, IsUntouched, SidesHold, serial}
+use Rattle.session.specs.declared.ending.Ending.{Ending}
+use Rattle.session.specs.Place.{pages_of}
+use Rattle.session.specs.Sides.{IsEnding}
+use Rattle.engine.specs.declared.status.Status.{Status}
 use Rattle.engine.specs.Built.{IsTaken, Spells}
+use Rattle.engine.specs.Claims.{OnEnded, OnWriteFault, is_gave_up, is_write_fault}
 
--- What a run left, beside the hosts.
+-- What a run over two hosts did.
 
--- The script that the input spelled, the lines of a text, a whole transcript for the script, and the world that their
--- events reach from the source's blocks at entry, each legal where it stands.
-pub record Run (input : Option (List ℕ)) (blocks : List (List ℕ)) (text : List ℕ) : Type 0 where
+-- the media of either host, the windows of its guest memory, and the sink
+pub record Hosts (M : Type 0) : Type 0 where
+  pub from : List M
+  pub to : List M
+  pub from_ram : List WindowState
+  pub to_ram : List WindowState
+  pub out : SinkState
+
+abbrev pub hosts : {M : Type 0} → Host M → Host M → SinkState → Hosts M
+hosts from to out = record { from = from.shelves.items; to = to.shelves.items; from_ram = from.ram; to_ram = to.ram; out = out }
+
+-- the script's run over these hosts, before its first stage
+abbrev pub start : {M : Type 0} → Script → Hosts M → Snapshot M
+start s h = start_of (serial s) h.from h.to h.out
+
+-- the hosts and the sink are as a run left them
+pub record AreLeft {M : Type 0} (end : Snapshot M) (new : Hosts M) : Type 0 where
+  pub from : new.from ≡ media_at Source end
+  pub to : new.to ≡ media_at Destination end
+  pub from_memory : pages_of new.from_ram ≡ memory_at Source end
+  pub to_memory : pages_of new.to_ram ≡ memory_at Destination end
+  pub out : new.out ≡ end.out
+
+-- the counts of failed calls of both hosts' media
+abbrev pub faults_of : {M I : Type 0} → (M → MediumState I) → Hosts M → List ℕ
+faults_of state h = faults_in state h.from ++ faults_in state h.to
+
+-- of blocks of the source, where the media of both hosts tell theirs
+abbrev pub IfTold : {M I : Type 0} → (M → MediumState I) → Hosts M → (List (List ℕ) → Type 0) → Type 0
+IfTold state h P = (blocks others : List (List ℕ)) → joined (told_in state h.from) ≡ Some blocks → joined (told_in state h.to) ≡ Some others → P blocks
+
+-- Each side's media, by their places, got exactly the calls of the stages on that side, in order, whether they tell their
+-- blocks or not. None of them changed its size.
+pub record AreCalled {M I : Type 0} (state : M → MediumState I) (moves : I → Step → Bool → I → Type 0) (s : Script) (stages : List Stage) (old new : Hosts M) : Type 0 where
+  pub source : Chain (IsAt state moves) old.from (flat_map (calls_at s Source) stages) new.from
+  pub destination : Chain (IsAt state moves) old.to (flat_map (calls_at s Destination) stages) new.to
+  pub source_sizes : HaveSize state s.head.shelf new.from × (length new.from ≡ length old.from)
+  pub destination_sizes : HaveSize state s.head.shelf new.to × (length new.to ≡ length old.to)
+
+-- No count of failed calls fell, and each fault that a line shows, a migration that was given up too, has a failed call.
+pub record HaveCauses (lines : List Line) (old new : List ℕ) : Type 0 where
+  pub never_fell : NeverFall old new
+  pub causes : RiseBy (faults_shown lines) old new
+
+-- the lines are a whole transcript for the script, and their events, each legal where it stands, reach the world
+pub record IsHistory (s : Script) (blocks : List (List ℕ)) (lines : List Line) (w : World) : Type 0 where
+  pub transcript : IsTranscript (text_of lines) lines
+  pub whole : IsWhole s lines
+  pub legal : Reaches s blocks (events_of lines) w
+
+-- A run that came to its end, from these blocks of the source, with these lines.
+pub record HasEnded {M I : Type 0} (state : M → MediumState I) (s : Script) (blocks : List (List ℕ)) (lines : List Line) (end : Snapshot M) (status : Status) : Type 0 where
+  pub world : World
+  pub history : IsHistory s blocks lines world
+  -- The events stand in turns, whose pieces have the script's order, and the migration stands where the script asks for it.
+  pub turns : RunsInTurns s blocks lines world
+  -- Each guest did its acts, and each of its commands was fetched, done, posted and reaped.
+  pub complete : Complete s world
+  -- Where the guests were moved, the source holds the blocks and the whole memory of the world then, and the destination
+  -- those of the world at the end. Where they weren't, the source holds these, and the destination's memory is zeroed.
+  pub hosts : SidesHold state s blocks (events_before_resume lines) end world
+  -- The answer says that the migration was given up exactly where the text does.
+  pub gave_up : has_given_up lines ≡ is_gave_up status
+
+-- A run of the script that the input spelled, of which all of this is said: one list of stages.
+pub record IsRun {M I : Type 0} (state : M → MediumState I) (moves : I → Step → Bool → I → Type 0) (input : Option (List ℕ)) (old : Hosts M) (status : Status) (new : Hosts M) : Type 0 where
   pub script : Script
   pub taken : IsTaken script
   pub spelled : Spells input script
-  pub lines : List Line
-  pub transcript : IsTranscript text lines
-  pub whole : IsWhole script lines
-  pub world : World
-  pub legal : Reaches script blocks (events_of lines) world
+  pub stages : List Stage
+  pub end : Snapshot M
+  pub run : Chain (IsStage state moves) (start script old) stages end
+  pub left : AreLeft end new
+  -- the stages' text went out; where the output failed, all but a rest of the last one's
+  pub text : IsWritten script stages old.out.taken (is_write_fault status) new.out.taken
+  pub media : AreCalled state moves script stages old new
+  pub faults : HaveCauses (lines_in script stages) (faults_of state old) (faults_of state new)
+  -- where no migration is asked for, the destination is as it was, with zeroed memory
+  pub unmoved : script.head.migrate ≡ None → IsUntouched (start script old) end
+  pub ended : OnEnded status (IfTold state old (λ blocks. HasEnded state script blocks (lines_in script stages) end status))
+  pub sink : OnWriteFault status (IfTold state old (λ blocks. HasStopped state script blocks (start script old) end))
 
--- The sink took the text of such a run, of which P holds, where both hosts' blocks and the text are told.
-abbrev pub Ran : Option (List ℕ) → Option (List (List ℕ)) → Option (List (List ℕ)) → Option (List ℕ) → Option (List ℕ) → (Script → List (List ℕ) → List Line → World → Type 0) → Type 0
-Ran input (Some blocks) (Some other) (Some before) after P =
-    (text : List ℕ) × (after ≡ Some (before ++ text)) × (run : Run input blocks text) × P run.script blocks run.lines run.world
-Ran input None other before after P = Unit {0}
-Ran input (Some blocks) None before after P = Unit {0}
-Ran input (Some blocks) (Some other) None after P = Unit {0}
-
--- The sink took a front of the lines of such a run: some of them whole, and a part of the next. What was done and not
--- written is of one turn at most, and one host holds the blocks that all of it leads to.
-abbrev pub Began : Option (List ℕ) → Option (List (List ℕ)) → Option (List (List ℕ)) → Option (List ℕ) → Option (List ℕ) → Option (List (List ℕ)) → Option (List (List ℕ)) → (Script → List (List ℕ) → List Line → World → Type 0) → Type 0
-Began input (Some blocks) (Some other) (Some before) after from_told to_told P =
-    (text : List ℕ) × (run : Run input blocks text) × (turns : RunsInTurns run.script blocks run.lines run.world)
-    × StopsAt run.script blocks (turns.before ++ turns.after) run.lines (Some before) after from_told (Some other) to_told × P run.script blocks run.lines run.world
-Began input None other before after from_told to_told P = Unit {0}
-Began input (Some blocks) None before after from_told to_told P = Unit {0}
-Began input (Some blocks) (Some other) None after from_told to_told P = Unit {0}
-
--- a host's guest memory: each lane's window pages, rings included
-abbrev pub whole_memory : List WindowState → List (List (List ℕ))
-whole_memory ram = map (λ (window : WindowState). window.pages) ram
-
--- a host's blocks and its whole guest memory, byte for byte, are those of the world
-pub record Holds (head : Head) (shelves : List (Option (List (List ℕ)))) (memory : List (List (List ℕ))) (w : World) : Type 0 where
-  pub blocks : joined shelves ≡ Some w.blocks
-  pub memory_is : memory ≡ lane_windows head 1 w.lanes
-
--- Where the guest was moved, the source holds the world that the events before reach, and the destination holds the
--- world at the end. Where it wasn't, the source holds it.
-abbrev pub HoldMoved : Option (List Line) → Script → List (List ℕ) → World → List (Option (List (List ℕ))) → List (List (List ℕ)) → List (Option (List (List ℕ))) → List (List (List ℕ)) → Type 0
-HoldMoved None s blocks w from from_memory to to_memory = Holds s.head from from_memory w
-HoldMoved (Some before) s blocks w from from_memory to to_memory = (v : World) × Reaches s blocks before v × Holds s.head from from_memory v × Holds s.head to to_memory w
-
--- the guest was moved where the lines have `resume to`
-abbrev pub HostsHold : Script → List (List ℕ) → List Line → World → List (Option (List (List ℕ))) → List (List (List ℕ)) → List (Option (List (List ℕ))) → List (List (List ℕ)) → Type 0
-HostsHold s blocks lines w from from_memory to to_memory = HoldMoved (events_before_resume lines) s blocks w from from_memory to to_memory
+-- What is known of a run before its answer is: the result says how it ended.
+pub record HasGone {M I E : Type 0} (state : M → MediumState I) (moves : I → Step → Bool → I → Type 0) (from : Snapshot M) (result : Result Ending E) (new : Hosts M) : Type 0 where
+  pub end : Snapshot M
+  pub ran : Ran state moves from (is_err result) end
+  pub left : AreLeft end new
+  pub over : is_err result ≡ false → end.phase ≡ Over
+  pub ending : IfOk result (λ ending. IsEnding from.task.script.head.migrate end.side ending)

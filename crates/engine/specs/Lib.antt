@@ -3,7 +3,6 @@ pub mod Words
 pub mod Sizes
 pub mod Built
 pub mod Claims
-pub mod Room
+pub mod Opened
 pub mod Headline
-pub mod Ended
 pub mod Checked

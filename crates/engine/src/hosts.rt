@@ -1,16 +1,20 @@
-// The hosts against the script, and their media as namespaces.
+// The hosts against the script, and as the places of a run.
 ghost use Rattle.std.specs.Prelude.{◌≡◌, ◌/◌, [], IfOk, OnErr, OnOk, replicate};
-ghost use Rattle.nvm_model.specs.Medium.{sizes_in};
+ghost use Rattle.nvm_model.specs.Medium.{HaveSize, sizes_in};
 ghost use Rattle.nvm_model.specs.ScriptText.{IsHead};
 ghost use Rattle.nvm_blocks.specs.Namespace.{media_of};
 ghost use Rattle.session.specs.Shelves.{IsNamespaceOf};
+ghost use Rattle.engine.specs.Claims.{IsAsBefore};
+ghost use Rattle.engine.specs.Opened.{IsOpened};
 ghost use Rattle.engine.specs.Sizes.{sizes_of, first_difference};
 
+use crate::room::{make_controller, make_ram};
 use guest_ram::Host;
 use mig_base::OutOfMemory;
 use mig_medium::Medium;
 use nvm_blocks::Namespace;
 use script::Head;
+use session::Place;
 use std::alloc::Global;
 use std::mem::replace;
 
@@ -38,39 +42,59 @@ pub(crate) fn host_difference<M: Medium>(
     None
 }
 
-/// Takes the media of both hosts, in their order, as the namespaces of a script with this head.
+/// Opens both hosts as places for a script with this head. The hosts' media go into them.
 ///
 /// # Errors
 ///
-/// `OutOfMemory` where there is no memory for them. Both hosts then have their media.
-pub(crate) fn take_namespaces<M: Medium>(
+/// `OutOfMemory` where there is no memory for that. Both hosts then are as they were.
+pub(crate) fn open_places<M: Medium>(
     alloc: Global,
     head: &Head,
     from: &mut Host<M>,
     to: &mut Host<M>,
-) -> Result<(Namespace<M>, Namespace<M>), OutOfMemory>
+) -> Result<(Place<M>, Place<M>), OutOfMemory>
     requires head { IsHead head.now }
     requires sizes { sizes_in M.state from.old.shelves.items ≡ replicate (head.now.blocks / head.now.shelf) head.now.shelf }
     requires to_sizes { sizes_in M.state to.old.shelves.items ≡ replicate (head.now.blocks / head.now.shelf) head.now.shelf }
-    ensures media { IfOk result (λ x. (media_of x.0 ≡ from.old.shelves.items) × (media_of x.1 ≡ to.old.shelves.items)) }
-    ensures fit { IfOk result (λ x. IsNamespaceOf head.now x.0 × IsNamespaceOf head.now x.1) }
+    ensures opened { IfOk result (λ x. IsOpened M.state head.now from.old.shelves.items x.0
+        × IsOpened M.state head.now to.old.shelves.items x.1) }
     ensures taken { OnOk result ((from.new.shelves.items ≡ []) × (to.new.shelves.items ≡ [])) }
-    ensures back { OnErr result ((from.new.shelves.items ≡ from.old.shelves.items) × (to.new.shelves.items ≡ to.old.shelves.items)) }
+    ensures back { OnErr result (IsAsBefore from.old from.new × IsAsBefore to.old to.new) }
 {
-    let source = match take_namespace(alloc, head, from) {
-        Ok(namespace) => namespace,
+    let source = match open_place(alloc, head, from) {
+        Ok(place) => place,
         Err(OutOfMemory) => return Err(OutOfMemory),
     };
-    match take_namespace(alloc, head, to) {
+    match open_place(alloc, head, to) {
         Ok(destination) => Ok((source, destination)),
         Err(OutOfMemory) => {
-            give_back(from, source.into_media());
+            let (namespace, _, _) = source.shut();
+            give_back(from, namespace.into_media());
             Err(OutOfMemory)
         }
     }
 }
 
-/// Takes the media of a host.
+/// Opens a host as a place.
+fn open_place<M: Medium>(
+    alloc: Global,
+    head: &Head,
+    host: &mut Host<M>,
+) -> Result<Place<M>, OutOfMemory>
+    requires head { IsHead head.now }
+    requires sizes { sizes_in M.state host.old.shelves.items ≡ replicate (head.now.blocks / head.now.shelf) head.now.shelf }
+    ensures opened { IfOk result (IsOpened M.state head.now host.old.shelves.items) }
+    ensures taken { OnOk result (host.new.shelves.items ≡ []) }
+    ensures back { OnErr result (host.new.shelves.items ≡ host.old.shelves.items) }
+    ensures ram { host.new.ram ≡ host.old.ram }
+{
+    let ram = make_ram(alloc, head)?;
+    let controller = make_controller(alloc, head)?;
+    let namespace = take_namespace(alloc, head, host)?;
+    Ok(Place::open(namespace, ram, controller))
+}
+
+/// Takes the media of a host, in their order, as a namespace.
 fn take_namespace<M: Medium>(
     alloc: Global,
     head: &Head,
@@ -78,14 +102,18 @@ fn take_namespace<M: Medium>(
 ) -> Result<Namespace<M>, OutOfMemory>
     requires head { IsHead head.now }
     requires sizes { sizes_in M.state host.old.shelves.items ≡ replicate (head.now.blocks / head.now.shelf) head.now.shelf }
-    ensures media { IfOk result (λ n. media_of n ≡ host.old.shelves.items) }
-    ensures fits { IfOk result (IsNamespaceOf head.now) }
+    ensures media { IfOk result (λ n. IsNamespaceOf head.now n × (media_of n ≡ host.old.shelves.items)
+        × HaveSize M.state head.now.shelf (media_of n)) }
     ensures taken { OnOk result (host.new.shelves.items ≡ []) }
     ensures back { OnErr result (host.new.shelves.items ≡ host.old.shelves.items) }
+    ensures ram { host.new.ram ≡ host.old.ram }
 {
     let media = replace(&mut host.shelves, Vec::new(alloc));
     match Namespace::make(alloc, media, head.shelf, MOST_PIECES) {
-        Ok(namespace) => Ok(namespace),
+        Ok(namespace) => {
+            namespace.has_sizes();
+            Ok(namespace)
+        }
         Err(media) => {
             give_back(host, media);
             Err(OutOfMemory)
@@ -93,8 +121,19 @@ fn take_namespace<M: Medium>(
     }
 }
 
+/// Gives a host the media and the memory of a place.
+pub(crate) fn shut_place<M: Medium>(host: &mut Host<M>, place: Place<M>)
+    requires { host.old.shelves.items ≡ [] }
+    ensures shelves { host.new.shelves.items ≡ media_of place.namespace }
+    ensures ram { host.new.ram ≡ place.windows }
+{
+    let (namespace, ram, _) = place.shut();
+    give_back(host, namespace.into_media());
+    host.ram = ram;
+}
+
 /// Gives a host its media back, which were taken.
-pub(crate) fn give_back<M>(host: &mut Host<M>, media: Vec<M>)
+fn give_back<M>(host: &mut Host<M>, media: Vec<M>)
     requires { host.old.shelves.items ≡ [] }
     ensures shelves { host.new.shelves.items ≡ media.items }
     ensures ram { host.new.ram ≡ host.old.ram }

@@ -60,7 +60,7 @@ stays_namespace {M} state moves shelf shelves i calls x new h there is called =
       each = λ k d l. all_at_set (IsShelf state shelf) shelves i new (record { first = called.first ∙ before.first; size = sized }) h.each k d (omega (arith, l, length-set shelves i new));
     }
 
-have_sizes : {M I : Type 0} (state : M → MediumState I) (shelf : ℕ) (shelves : List (ShelfState M)) → IsNamespace state shelf shelves → HaveSize state shelf (map (λ (s : ShelfState M). s.medium) shelves)
+pub have_sizes : {M I : Type 0} (state : M → MediumState I) (shelf : ℕ) (shelves : List (ShelfState M)) → IsNamespace state shelf shelves → HaveSize state shelf (map (λ (s : ShelfState M). s.medium) shelves)
 have_sizes {M} state shelf shelves h = All-map (λ (m : M). HasSize shelf (state m)) (λ (s : ShelfState M). s.medium) shelves (λ k d l. (h.each k d l).size)
 
 -- and its media got these calls and no other

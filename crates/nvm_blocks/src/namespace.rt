@@ -1,6 +1,6 @@
 ghost use Rattle.std.specs.Prelude.{◌≡◌, ◌*◌, ◌/◌, ◌%◌, ◌<◌, ◌≤◌, [], ◌∷◌, IfErr, IfOk, IfSome, All, is_err, length, map, replicate};
 ghost use Rattle.nvm_values.specs.declared.op.Op.TheVariants.{Read};
-ghost use Rattle.nvm_model.specs.Medium.{got, sent};
+ghost use Rattle.nvm_model.specs.Medium.{HaveSize, got, sent};
 ghost use Rattle.guest_ram.specs.Window.{data_pages};
 ghost use Rattle.nvm_blocks.specs.Namespace.{HasAppliedIn, HasCalled, HasRoom, IsClearedAt, block_call, IsForNamespace, block_count, entries_of, media_of, rooms_of, told_of, with_entry};
 ghost use Rattle.nvm_blocks.specs.Shelves.{cleared};
@@ -85,6 +85,13 @@ impl<M: Medium> Namespace<M> {
         ensures told { IfSome (told_of M.state self.now) (λ blocks. length blocks ≡ result) }
     {
         self.shelves.len() as u32 * self.shelf
+    }
+
+    /// A law: each medium has as many blocks as a shelf, and tells as many where it tells them.
+    pub fn has_sizes(&self)
+        ensures { HaveSize M.state self.now.shelf (media_of self.now) }
+    {
+        let _shelf = self.shelf;
     }
 
     /// Does a piece, which has from 1 to 64 blocks, all in one shelf, and isn't a Flush. `w` is its lane's window, and

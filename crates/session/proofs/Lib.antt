@@ -3,6 +3,7 @@ pub mod CopyLemmas
 pub mod LaneLemmas
 pub mod LanePartLemmas
 pub mod MemoryLemmas
+pub mod OpenLemmas
 pub mod OrderLemmas
 pub mod RestLemmas
 pub mod SeatLemmas

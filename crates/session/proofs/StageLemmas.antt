@@ -28,7 +28,7 @@ use Rattle.session.specs.declared.order.Order.{Order}
 use Rattle.session.specs.Copies.{CopiesTo, HandsOver, SamePlace, both}
 use Rattle.session.specs.Lanes.{HaveWindows}
 use Rattle.session.specs.Shelves.{IsNamespaceOf}
-use Rattle.session.specs.Place.{AreAllDone, AreQuiet, DoesTurn, IsPlaceOf, IsReady, PlaceState, StandsFor, StandsOn, pages_of, serial}
+use Rattle.session.specs.Place.{AreAllDone, AreQuiet, DoesTurn, IsPlaceOf, IsReady, PlaceState, StandsFor, StandsOn, machine, pages_of, serial}
 use Rattle.session.specs.Sides.{Goes, GoesTo, IsAhead, IsDueAfter, IsEnding, IsMoveDue, IsOnward, SessionState, Sides, StandsAs, at_side, by_side, less_one, machine_of, sides, turns_ahead}
 use Rattle.session.proofs.MemoryLemmas.{have_pages, same_pages, same_windows, whole_memory}
 use Rattle.session.proofs.ShelvesLemmas.{same_namespace}
@@ -110,7 +110,7 @@ pub goes_title : {M I T E : Type 0} {state : M → MediumState I} {moves : I →
 goes_title {sent = sent} was written t stands = record {
   end = record t { phase = Running; out = sent };
   went = went_sent Title (record { was = stands.phase ∙ was; after = refl }) (sent_from stands.out written);
-  stands = record { task = stands.task; phase = refl; side = stands.side; ahead = stands.ahead; lanes = stands.lanes; other = stands.other; left = stands.left; out = refl };
+  stands = record { task = stands.task; phase = refl; side = stands.side; ahead = stands.ahead; lanes = stands.lanes; memory = stands.memory; other = stands.other; left = stands.left; out = refl };
 }
 
 pub goes_begin : {M I T E : Type 0} {state : M → MediumState I} {moves : I → Step → Bool → I → Type 0} {s : SessionState} {at other : PlaceState M} {out sent : SinkState} {result : Result T E} →
@@ -119,7 +119,7 @@ pub goes_begin : {M I T E : Type 0} {state : M → MediumState I} {moves : I →
 goes_begin {s = s} {sent = sent} was ready due written t stands = record {
   end = record t { phase = Suspended; tried = true; out = sent };
   went = went_sent Begin (record { was = stands.phase ∙ was; due = due_is t s.ahead stands.ahead (all_complete s t stands.task ready stands.lanes) due; after = refl }) (sent_from stands.out written);
-  stands = record { task = stands.task; phase = refl; side = stands.side; ahead = λ e. absurd cc; lanes = stands.lanes; other = stands.other; left = stands.left; out = refl };
+  stands = record { task = stands.task; phase = refl; side = stands.side; ahead = λ e. absurd cc; lanes = stands.lanes; memory = stands.memory; other = stands.other; left = stands.left; out = refl };
 }
 
 pub goes_end : {M I T E : Type 0} {state : M → MediumState I} {moves : I → Step → Bool → I → Type 0} {s : SessionState} {at other : PlaceState M} {out sent : SinkState} {result : Result T E} →
@@ -133,15 +133,15 @@ goes_end {s = s} {sent = sent} was ready done none written t stands = record {
     complete = all_complete s t stands.task ready stands.lanes done;
     after = refl;
   }) (sent_from stands.out written);
-  stands = record { task = stands.task; phase = refl; side = stands.side; ahead = stands.ahead; lanes = stands.lanes; other = stands.other; left = stands.left; out = refl };
+  stands = record { task = stands.task; phase = refl; side = stands.side; ahead = stands.ahead; lanes = stands.lanes; memory = stands.memory; other = stands.other; left = stands.left; out = refl };
 }
 
 pub goes_turn : {M I T E : Type 0} {state : M → MediumState I} {moves : I → Step → Bool → I → Type 0} {s : SessionState} {at new_at other : PlaceState M} {out sent : SinkState} {result : Result T E} (runs : List LaneRun) (order : Order) (events : List Line) →
-    s.phase ≡ Running → IsReady s.script (machine_of s at) → (IsMoveDue s → ⊥) →
+    s.phase ≡ Running → IsReady s.script (machine_of s at) → (IsMoveDue s → ⊥) → IsReady s.script (machine runs order new_at) →
     ((h : Here M) → StandsOn s.script (machine_of s at) h → DoesTurn state moves s.script h events (record { runs = runs; order = order; place = new_at })) →
     Writes (text_of events) out.taken sent.taken out.faults sent.faults result →
     Goes state moves (sides s at other out) (is_err result) (sides (record s { runs = runs; order = order; ahead = less_one s.ahead }) new_at other sent)
-goes_turn {M} {I} {T} {E} {state} {moves} {s} {at} {new_at} {other} {out} {sent} {result} runs order events was ready none does written t stands =
+goes_turn {M} {I} {T} {E} {state} {moves} {s} {at} {new_at} {other} {out} {sent} {result} runs order events was ready none ready_then does written t stands =
     let d = does (here t) stands.lanes in
     let text : Writes (text_of (turn_lines d.done)) out.taken sent.taken out.faults sent.faults result = subst (λ (ls : List Line). Writes (text_of ls) out.taken sent.taken out.faults sent.faults result) d.events_are written in
     record {
@@ -159,6 +159,7 @@ goes_turn {M} {I} {T} {E} {state} {moves} {s} {at} {new_at} {other} {out} {sent}
         side = stands.side;
         ahead = ahead_less t.tried t.task.script.head.migrate t.turns s.ahead (AreAllDone s.script s.runs) stands.ahead none;
         lanes = d.stands;
+        memory = ap (λ (k : Task). memory_of k.script d.new.lanes) stands.task ∙ sym (whole_memory ready_then.script ready_then.runs ready_then.place.windows d.stands.lanes);
         other = stands.other;
         left = stands.left;
         out = refl;
@@ -244,6 +245,7 @@ goes_resume {M} {I} {T} {E} {state} {moves} {s} {old_at} {old_to} {at} {to} {new
     let all = pages_are ∙ have_pages ready.script.head (same_windows place.windows handed.shape) in
     let shelf = shelf_is s t stands.task ready.place copies.from in
     let after = lanes_after s t.lanes copies.from stands.lanes.lanes in
+    let there = lanes_there s t.lanes ready.place place handed after in
     let text : Writes (text_of (lines_of t.task.script (Resume t.side copies.copies))) out.taken sent.taken out.faults sent.faults result =
     subst (λ (k : Task). Writes (text_of (lines_of k.script (Resume t.side copies.copies))) out.taken sent.taken out.faults sent.faults result) (sym stands.task)
     (subst (λ (n : ℕ). Writes (text_of (line.Pause s.script.head.blocks n ∷ line.ResumeTo ∷ [])) out.taken sent.taken out.faults sent.faults result) all written) in
@@ -262,7 +264,8 @@ goes_resume {M} {I} {T} {E} {state} {moves} {s} {old_at} {old_to} {at} {to} {new
         phase = refl;
         side = ap opposite stands.side;
         ahead = stands.ahead;
-        lanes = record { lanes = lanes_there s t.lanes ready.place place handed after; media = refl; words = stands.lanes.words };
+        lanes = record { lanes = there; media = refl; words = stands.lanes.words };
+        memory = ap (λ (k : Task). memory_of k.script t.lanes) stands.task ∙ sym (whole_memory ready.script ready.runs (same_windows place.windows handed.shape) there);
         other = refl;
         left = ap (λ (k : Task). memory_of k.script t.lanes) stands.task ∙ sym (whole_memory ready.script ready.runs ready.place.windows after)
             ∙ sym (ap (λ (p : PlaceState M). pages_of p.windows) handed.from_is);
@@ -293,6 +296,7 @@ goes_stay {M} {state = state} {moves} {s = s} {at = at} {to = to} {sent = sent} 
         side = stands.side;
         ahead = stands.ahead;
         lanes = record { lanes = lanes_after s t.lanes copies.from stands.lanes.lanes; media = refl; words = stands.lanes.words };
+        memory = stands.memory ∙ sym (ap (λ (p : PlaceState M). pages_of p.windows) copies.from.rest);
         other = refl;
         left = stands.left ∙ sym (ap (λ (p : PlaceState M). pages_of p.windows) copies.to.rest);
         out = refl;

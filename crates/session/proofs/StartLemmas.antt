@@ -20,7 +20,7 @@ use Rattle.session.proofs.LaneLemmas.{set_fits}
 -- A run at its start.
 
 -- a look-up within a list of lanes' sizes
-pages_at : (s : Script) (k : ℕ) (d : LaneSet) → IsScript s → 1 ≤ k → k ≤ s.head.lanes → slice_index_or (take s.head.lanes s.head.sets) (k - 1) d ≡ set_of s.head k
+pub pages_at : (s : Script) (k : ℕ) (d : LaneSet) → IsScript s → 1 ≤ k → k ≤ s.head.lanes → slice_index_or (take s.head.lanes s.head.sets) (k - 1) d ≡ set_of s.head k
 pages_at s k d is first few =
     let none : LaneSet = record { sq = 0; cq = 0; pages = 0 } in
     let enough : s.head.lanes ≤ length s.head.sets = omega (arith, is.head.sets.0, is.head.lanes.1) in

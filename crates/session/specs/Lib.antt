@@ -1,6 +1,7 @@
 pub mod Copies
 pub mod LaneParts
 pub mod Lanes
+pub mod Opened
 pub mod Phases
 pub mod Place
 pub mod Seats

@@ -8,7 +8,7 @@ use Rattle.turns.specs.declared.run.RunPhase.{RunPhase}
 use Rattle.turns.specs.declared.run.RunPhase.TheVariants.{New, Running, Suspended, Over}
 use Rattle.turns.specs.declared.run.Side.{Side}
 use Rattle.turns.specs.declared.run.Side.TheVariants.{Source, Destination}
-use Rattle.turns.specs.Run.{SinkState, Snapshot, Went, here}
+use Rattle.turns.specs.Run.{SinkState, Snapshot, Went, here, memory_of}
 use Rattle.session.specs.declared.ending.Ending.{Ending}
 use Rattle.session.specs.declared.ending.Ending.TheVariants.{Done, GaveUp}
 use Rattle.session.specs.declared.lane_run.LaneRun.{LaneRun}
@@ -58,6 +58,7 @@ pub record StandsAs {M : Type 0} (m : Sides M) (t : Snapshot M) : Type 0 where
   pub side : t.side ≡ m.session.side
   pub ahead : IsAhead t.tried t.task.script.head.migrate t.turns m.session.ahead
   pub lanes : StandsOn m.session.script (machine_of m.session m.at) (here t)
+  pub memory : memory_of t.task.script t.lanes ≡ pages_of m.at.windows
   pub other : t.other ≡ media_of m.other.namespace
   pub left : t.left ≡ pages_of m.other.windows
   pub out : t.out ≡ m.out

@@ -1,3 +1,4 @@
+pub mod AskedLaws
 pub mod CommandLemmas
 pub mod FrameLemmas
 pub mod OrderLemmas

@@ -7,8 +7,12 @@ make-requires-clause-sizes g c =
     let head = c.args.head.now in
     all_of_size (λ m. (g.M.Medium.state m).size) c.replace-media.result.items (head.blocks / head.shelf) head.shelf (same_media (λ m. (g.M.Medium.state m).size) (ap (λ media. media.items) c.replace-media.ensures.value) c.requires.sizes)
 
-pub returns-in-Ok-clause-fits : goal.returns-in-Ok-clause-fits
-returns-in-Ok-clause-fits g c =
+pub returns-in-Ok-clause-media : goal.returns-in-Ok-clause-media
+returns-in-Ok-clause-media g c =
     let head = c.args.head.now in
-    is_namespace (λ m. (g.M.Medium.state m).size) head c.replace-media.result.items c.in-Ok.namespace c.requires.head (same_media (λ m. (g.M.Medium.state m).size) (ap (λ media. media.items) c.replace-media.ensures.value) c.requires.sizes)
-    c.in-Ok.ensures.media c.in-Ok.ensures.shelf c.in-Ok.ensures.rooms
+    let media = ap (λ media. media.items) c.replace-media.ensures.value in (
+      is_namespace (λ m. (g.M.Medium.state m).size) head c.replace-media.result.items c.in-Ok.namespace c.requires.head (same_media (λ m. (g.M.Medium.state m).size) media c.requires.sizes)
+          c.in-Ok.ensures.media c.in-Ok.ensures.shelf c.in-Ok.ensures.rooms,
+      rw (c.in-Ok.ensures.media) media,
+      rw (← c.in-Ok.ensures.shelf) c.has_sizes.ensures,
+    )

@@ -1,0 +1,16 @@
+use Rattle.std.proofs.Common.{refl}
+use Rattle.session.proofs.OpenLemmas.{opens}
+use Rattle.engine.proofs.TopLemmas.{gone}
+use Rattle.engine.proofs.top.run_places.Goals as goal
+
+pub run-ended-requires-clause-ready : goal.run-ended-requires-clause-ready
+run-ended-requires-clause-ready g c = (opens c.requires.new.0 c.requires.new.1 c.requires.source c.requires.destination).ready
+
+pub run-ended-requires-clause-place : goal.run-ended-requires-clause-place
+run-ended-requires-clause-place g c = (opens c.requires.new.0 c.requires.new.1 c.requires.source c.requires.destination).place
+
+pub returns : goal.returns
+returns g c = record {
+  gone = gone c.run-ended.new.session (opens c.requires.new.0 c.requires.new.1 c.requires.source c.requires.destination) c.run-ended.ensures.went c.run-ended.ensures.ended
+      (record { from = c.shut_place.ensures.shelves; to = c.shut_place-2.ensures.shelves; from_ram = c.shut_place.ensures.ram; to_ram = c.shut_place-2.ensures.ram; out = refl });
+}

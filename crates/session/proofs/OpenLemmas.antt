@@ -1,0 +1,70 @@
+use Rattle.std.proofs.Common.{◌≡◌, ℕ, ◌+◌, ◌-◌, ◌<◌, ◌≤◌, inr, false, Option, Some, None, List, [], length, map, slice_index_or, take, refl, sym, ap, ◌∙◌, arith}
+use Rattle.std.proofs.lemmas.List.{get_or-map, length-map, length-take-le}
+use Rattle.nvm_model.specs.declared.script.LaneSet.{LaneSet}
+use Rattle.nvm_model.specs.declared.script.Script.{Script}
+use Rattle.nvm_model.specs.ScriptText.{IsScript, IsTurn}
+use Rattle.nvm_model.specs.World.{set_of}
+use Rattle.controller.specs.Pair.{ControllerState, new_pair, no_pair, pair_of}
+use Rattle.turns.specs.Run.{Here, memory_of}
+use Rattle.session.specs.Lanes.{start_lanes}
+use Rattle.session.specs.Opened.{IsNewPlace, Opens, controller_made}
+use Rattle.session.specs.Place.{AreQuiet, IsPlaceOf, PlaceState, StandsFor, StandsOn}
+use Rattle.session.specs.Sides.{IsAhead, IsNewSession, SessionState, machine_of, turns_ahead}
+use Rattle.session.proofs.MemoryLemmas.{whole_memory}
+use Rattle.session.proofs.StartLemmas.{have_made, new_stands, pages_at}
+
+-- A session with two places as they are opened.
+
+-- the queue pair of a lane, of a controller of which nothing was asked
+new_pairs : {s : Script} {controller : ControllerState} → IsScript s → controller ≡ controller_made s.head → (k : ℕ) → 1 ≤ k → k ≤ s.head.lanes → pair_of controller k ≡ new_pair s.head.burst (set_of s.head k)
+new_pairs {s} {controller} is made k first few =
+    let sets = take s.head.lanes s.head.sets in
+    let none : LaneSet = record { sq = 0; cq = 0; pages = 0 } in
+    let enough : s.head.lanes ≤ length s.head.sets = omega (arith, is.head.sets.0, is.head.lanes.1) in
+    let within : k - 1 < length sets = rw (length-take-le s.head.lanes s.head.sets enough) (omega (arith, first, few)) in
+    ap (λ (c : ControllerState). pair_of c k) made ∙ get_or-map (new_pair s.head.burst) sets (k - 1) none no_pair within ∙ ap (new_pair s.head.burst) (pages_at s k none is first few)
+
+is_place : {M : Type 0} {s : Script} {media : List M} {place : PlaceState M} → IsScript s → IsNewPlace s.head media place → IsPlaceOf s place
+is_place {M} {s} {media} {place} is new =
+    let sets = take s.head.lanes s.head.sets in
+    let enough : s.head.lanes ≤ length s.head.sets = omega (arith, is.head.sets.0, is.head.lanes.1) in
+    record {
+      namespace = new.namespace;
+      windows = have_made is new.windows;
+      pairs = ap (λ (c : ControllerState). length c.pairs) new.controller ∙ length-map sets (new_pair s.head.burst) ∙ length-take-le s.head.lanes s.head.sets enough;
+      burst = ap (λ (c : ControllerState). c.burst) new.controller;
+      phase = ap (λ (c : ControllerState). c.phase) new.controller;
+    }
+
+-- its runs stand for the lanes at the start, with either place
+starts : {M : Type 0} {session : SessionState} {media : List M} {place : PlaceState M} → IsScript session.script → IsNewSession session.script session → IsNewPlace session.script.head media place →
+    StandsFor session.script session.runs place.controller place.windows (start_lanes session.script) × AreQuiet session.script session.runs place.controller
+starts is session new = new_stands is session.new (new_pairs is new.controller) new.windows
+
+-- the turns that come before a migration that is asked for
+ahead_is : (migrate : Option ℕ) → IsTurn migrate → IsAhead false migrate 0 (turns_ahead migrate)
+ahead_is None fits = λ e. refl
+ahead_is (Some turn) fits = let n : turn ≡ 0 + (turn - 1) + 1 = omega (arith, fits.0) in (refl, ap (λ (k : ℕ). Some k) n)
+
+pub opens : {M : Type 0} {session : SessionState} {from_media to_media : List M} {from to : PlaceState M} → IsScript session.script → IsNewSession session.script session →
+    IsNewPlace session.script.head from_media from → IsNewPlace session.script.head to_media to → Opens session from_media to_media from to
+opens {M} {session} {from_media} {to_media} {from} {to} is new source destination =
+    let s = session.script in
+    let here : Here M = record { lanes = start_lanes s; media = from_media; drawn = 0 } in
+    let lanes = starts is new source in
+    let stands : StandsOn s (machine_of session from) here = record { lanes = lanes.0; media = sym source.media_are; words = inr new.words } in
+    record {
+      ready = record { script = is; runs = new.runs; place = is_place is source; mix = new.mix; quiet = lanes.1; stood = here; stands = stands };
+      place = is_place is destination;
+      stands = λ out. record {
+        task = refl;
+        phase = sym new.phase;
+        side = sym new.side;
+        ahead = rw new.ahead (ahead_is s.head.migrate is.head.migrate);
+        lanes = stands;
+        memory = sym (whole_memory is new.runs (have_made is source.windows) lanes.0);
+        other = sym destination.media_are;
+        left = sym (whole_memory is new.runs (have_made is destination.windows) (starts is new destination).0);
+        out = refl;
+      };
+    }

@@ -1,0 +1,35 @@
+use Rattle.std.specs.Prelude.{◌≡◌, List, map, take}
+use Rattle.nvm_model.specs.declared.script.Head.{Head}
+use Rattle.nvm_model.specs.declared.script.LaneSet.{LaneSet}
+use Rattle.guest_ram.specs.Ram.{windows_made}
+use Rattle.guest_ram.specs.Window.{WindowState}
+use Rattle.nvm_blocks.specs.Namespace.{media_of}
+use Rattle.controller.specs.declared.controller.Phase.TheVariants.{Running}
+use Rattle.controller.specs.Pair.{ControllerState, new_pair}
+use Rattle.turns.specs.Run.{SinkState, start_of}
+use Rattle.session.specs.Place.{IsPlaceOf, IsReady, PlaceState, serial}
+use Rattle.session.specs.Shelves.{IsNamespaceOf}
+use Rattle.session.specs.Sides.{SessionState, StandsAs, machine_of, sides}
+
+-- Places as they are opened for a script.
+
+-- the memory of the lanes' guests as it is made, zeroed
+abbrev pub memory_made : Head → List WindowState
+memory_made head = windows_made 1 (map (λ (set : LaneSet). set.pages) (take head.lanes head.sets))
+
+-- a controller of which nothing was asked
+abbrev pub controller_made : Head → ControllerState
+controller_made head = record { pairs = map (new_pair head.burst) (take head.lanes head.sets); burst = head.burst; phase = Running }
+
+-- a place over these media, on which nothing was done
+pub record IsNewPlace {M : Type 0} (head : Head) (media : List M) (place : PlaceState M) : Type 0 where
+  pub namespace : IsNamespaceOf head place.namespace
+  pub media_are : media_of place.namespace ≡ media
+  pub windows : place.windows ≡ memory_made head
+  pub controller : place.controller ≡ controller_made head
+
+-- a session on a place that can begin, and the run that they stand for
+pub record Opens {M : Type 0} (session : SessionState) (from_media to_media : List M) (from to : PlaceState M) : Type 0 where
+  pub ready : IsReady session.script (machine_of session from)
+  pub place : IsPlaceOf session.script to
+  pub stands : (out : SinkState) → StandsAs (sides session from to out) (start_of (serial session.script) from_media to_media out)
