@@ -4,10 +4,11 @@ use Rattle.nvm_model.specs.declared.script.LaneSet.{LaneSet}
 use Rattle.nvm_model.specs.declared.script.Script.{Script}
 use Rattle.nvm_model.specs.ScriptText.{IsScript, IsTurn}
 use Rattle.nvm_model.specs.World.{set_of}
-use Rattle.controller.specs.Pair.{ControllerState, new_pair, no_pair, pair_of}
+use Rattle.controller.specs.declared.controller.Phase.TheVariants.{Running}
+use Rattle.controller.specs.Pair.{ControllerState, IsMade, PairState, new_pair, no_pair, pair_of}
 use Rattle.turns.specs.Run.{Here, memory_of}
 use Rattle.session.specs.Lanes.{start_lanes}
-use Rattle.session.specs.Opened.{IsNewPlace, Opens, controller_made}
+use Rattle.session.specs.Opened.{IsNewPlace, Opens}
 use Rattle.session.specs.Place.{AreQuiet, IsPlaceOf, PlaceState, StandsFor, StandsOn}
 use Rattle.session.specs.Sides.{IsAhead, IsNewSession, SessionState, machine_of, turns_ahead}
 use Rattle.session.proofs.MemoryLemmas.{whole_memory}
@@ -16,13 +17,13 @@ use Rattle.session.proofs.StartLemmas.{have_made, new_stands, pages_at}
 -- A session with two places as they are opened.
 
 -- the queue pair of a lane, of a controller of which nothing was asked
-new_pairs : {s : Script} {controller : ControllerState} → IsScript s → controller ≡ controller_made s.head → (k : ℕ) → 1 ≤ k → k ≤ s.head.lanes → pair_of controller k ≡ new_pair s.head.burst (set_of s.head k)
-new_pairs {s} {controller} is made k first few =
+new_pairs : {s : Script} {cells : ℕ} {controller : ControllerState} → IsScript s → IsMade Running (take s.head.lanes s.head.sets) cells s.head.burst controller → (k : ℕ) → 1 ≤ k → k ≤ s.head.lanes → pair_of controller k ≡ new_pair s.head.burst (set_of s.head k)
+new_pairs {s} {controller = controller} is made k first few =
     let sets = take s.head.lanes s.head.sets in
     let none : LaneSet = record { sq = 0; cq = 0; pages = 0 } in
     let enough : s.head.lanes ≤ length s.head.sets = omega (arith, is.head.sets.0, is.head.lanes.1) in
     let within : k - 1 < length sets = rw (length-take-le s.head.lanes s.head.sets enough) (omega (arith, first, few)) in
-    ap (λ (c : ControllerState). pair_of c k) made ∙ get_or-map (new_pair s.head.burst) sets (k - 1) none no_pair within ∙ ap (new_pair s.head.burst) (pages_at s k none is first few)
+    ap (λ (pairs : List PairState). slice_index_or pairs (k - 1) no_pair) made.pairs ∙ get_or-map (new_pair s.head.burst) sets (k - 1) none no_pair within ∙ ap (new_pair s.head.burst) (pages_at s k none is first few)
 
 is_place : {M : Type 0} {s : Script} {media : List M} {place : PlaceState M} → IsScript s → IsNewPlace s.head media place → IsPlaceOf s place
 is_place {M} {s} {media} {place} is new =
@@ -31,9 +32,9 @@ is_place {M} {s} {media} {place} is new =
     record {
       namespace = new.namespace;
       windows = have_made is new.windows;
-      pairs = ap (λ (c : ControllerState). length c.pairs) new.controller ∙ length-map sets (new_pair s.head.burst) ∙ length-take-le s.head.lanes s.head.sets enough;
-      burst = ap (λ (c : ControllerState). c.burst) new.controller;
-      phase = ap (λ (c : ControllerState). c.phase) new.controller;
+      pairs = ap (λ (pairs : List PairState). length pairs) new.controller.pairs ∙ length-map sets (new_pair s.head.burst) ∙ length-take-le s.head.lanes s.head.sets enough;
+      burst = new.controller.burst_is;
+      phase = new.controller.phase_is;
     }
 
 -- its runs stand for the lanes at the start, with either place

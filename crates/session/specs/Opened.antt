@@ -5,7 +5,7 @@ use Rattle.guest_ram.specs.Ram.{windows_made}
 use Rattle.guest_ram.specs.Window.{WindowState}
 use Rattle.nvm_blocks.specs.Namespace.{media_of}
 use Rattle.controller.specs.declared.controller.Phase.TheVariants.{Running}
-use Rattle.controller.specs.Pair.{ControllerState, new_pair}
+use Rattle.controller.specs.Pair.{IsMade}
 use Rattle.turns.specs.Run.{SinkState, start_of}
 use Rattle.session.specs.Place.{IsPlaceOf, IsReady, PlaceState, serial}
 use Rattle.session.specs.Shelves.{IsNamespaceOf}
@@ -17,16 +17,12 @@ use Rattle.session.specs.Sides.{SessionState, StandsAs, machine_of, sides}
 abbrev pub memory_made : Head → List WindowState
 memory_made head = windows_made 1 (map (λ (set : LaneSet). set.pages) (take head.lanes head.sets))
 
--- a controller of which nothing was asked
-abbrev pub controller_made : Head → ControllerState
-controller_made head = record { pairs = map (new_pair head.burst) (take head.lanes head.sets); burst = head.burst; phase = Running }
-
 -- a place over these media, on which nothing was done
 pub record IsNewPlace {M : Type 0} (head : Head) (media : List M) (place : PlaceState M) : Type 0 where
   pub namespace : IsNamespaceOf head place.namespace
   pub media_are : media_of place.namespace ≡ media
   pub windows : place.windows ≡ memory_made head
-  pub controller : place.controller ≡ controller_made head
+  pub controller : IsMade Running (take head.lanes head.sets) head.change head.burst place.controller
 
 -- a session on a place that can begin, and the run that they stand for
 pub record Opens {M : Type 0} (session : SessionState) (from_media to_media : List M) (from to : PlaceState M) : Type 0 where
