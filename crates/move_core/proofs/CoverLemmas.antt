@@ -1,4 +1,4 @@
-use Rattle.std.proofs.Common.{◌≡◌, ◌⊎◌, inl, inr, ⊎_elim, ℕ, zero, suc, ◌+◌, ◌-◌, ◌<◌, ◌≤◌, Bool, true, false, ◌||◌, cond, List, [], ◌∷◌, ◌++◌, Result, Ok, Err, ap, ◌∙◌, arith, drop, get_or, length, refl, replicate, rules, set, slice_index_or, slice_set, subst, sym, take}
+use Rattle.std.proofs.Common.{◌≡◌, ◌⊎◌, inl, inr, ⊎_elim, ℕ, zero, suc, ◌+◌, ◌-◌, ◌<◌, ◌≤◌, Bool, true, false, List, [], ◌∷◌, ◌++◌, Result, Ok, Err, ap, ◌∙◌, arith, drop, length, refl, replicate, slice_index_or, slice_set, subst, sym, take}
 use Rattle.std.proofs.lemmas.Bool.{cases_eq, cases_lt}
 use Rattle.std.proofs.lemmas.Grind.{get_or-set_at}
 use Rattle.std.proofs.lemmas.List.{get_or-replicate, get_or-set_other, length-replicate, length-set}
@@ -7,7 +7,7 @@ use Rattle.move_core.specs.declared.event.CoreEvent.{CoreEvent}
 use Rattle.move_core.specs.declared.event.CoreEvent.TheVariants.{Piece, Post, Copy, Take, Restart, Suspend, Resume, GiveUp}
 use Rattle.move_core.specs.declared.phase.CorePhase.{CorePhase}
 use Rattle.move_core.specs.declared.phase.CorePhase.TheVariants.{Moving, Suspended, Resumed, GaveUp}
-use Rattle.move_core.specs.State.{CoreState, IsCopying, IsWrite, May, NoneOwed, NoneUnposted, Steps, after, block_at, is_lost, is_owed, owe_blocks, owe_oldest, put_blocks, spans_of, start_core, written}
+use Rattle.move_core.specs.State.{CoreState, May, NoneUnposted, Steps, after, block_at, is_lost, is_owed, owe_blocks, owe_oldest, put_blocks, spans_of, start_core, written}
 use Rattle.move_core.specs.Covered.{CoveredIn, InLane, InSome, IsCalm, IsCoreCovered, IsCovered, IsIn, IsShaped, KeepsSides}
 use Rattle.move_core.specs.Does.{Does, Goes}
 
