@@ -131,22 +131,58 @@ fn transcript(alloc: Global, parts: [&str; 3]) -> Result<Vec<u8>, AllocError> {
     joined(alloc, &[first, before, lines, after, "end\n"])
 }
 
+/// The source's calls: the write before the move, and each block read once.
+const SOURCE_CALLS: [Step; 17] = [
+    Step::Put(3),
+    Step::Get(0),
+    Step::Get(1),
+    Step::Get(2),
+    Step::Get(3),
+    Step::Get(4),
+    Step::Get(5),
+    Step::Get(6),
+    Step::Get(7),
+    Step::Get(8),
+    Step::Get(9),
+    Step::Get(10),
+    Step::Get(11),
+    Step::Get(12),
+    Step::Get(13),
+    Step::Get(14),
+    Step::Get(15),
+];
+
+/// The destination's: each block written once, and then what the guest does there.
+const DESTINATION_CALLS: [Step; 20] = [
+    Step::Put(0),
+    Step::Put(1),
+    Step::Put(2),
+    Step::Put(3),
+    Step::Put(4),
+    Step::Put(5),
+    Step::Put(6),
+    Step::Put(7),
+    Step::Put(8),
+    Step::Put(9),
+    Step::Put(10),
+    Step::Put(11),
+    Step::Put(12),
+    Step::Put(13),
+    Step::Put(14),
+    Step::Put(15),
+    Step::Get(3),
+    Step::Put(4),
+    Step::Get(3),
+    Step::Get(4),
+];
+
 /// Each block is read and written once, and then the guest's own calls come to the destination alone.
 #[test]
 fn a_move_copies_each_block_once(rt: HostRuntime) -> Result<(), Fail> {
     let mut left = run(&rt, rt.alloc(), MOVING, ONE_SHELF)?;
     assert!(&rt; left.status == Status::Done);
-    let mut source = vec![in rt.alloc(); Step::Put(3)]?;
-    let mut destination = Vec::new(rt.alloc());
-    for b in 0..16 {
-        source.push(Step::Get(b))?;
-        destination.push(Step::Put(b))?;
-    }
-    for step in [Step::Get(3), Step::Put(4), Step::Get(3), Step::Get(4)] {
-        destination.push(step)?;
-    }
-    assert!(&rt; steps_of(&left.from, 0) == Some(source.as_slice()));
-    assert!(&rt; steps_of(&left.to, 0) == Some(destination.as_slice()));
+    assert!(&rt; steps_of(&left.from, 0) == Some(SOURCE_CALLS.as_slice()));
+    assert!(&rt; steps_of(&left.to, 0) == Some(DESTINATION_CALLS.as_slice()));
     assert!(&rt; block_of(&mut left.from, 0, 3) == Some([0x5a; 512]));
     assert!(&rt; block_of(&mut left.from, 0, 4) == Some([0; 512]));
     assert!(&rt; block_of(&mut left.to, 0, 3) == Some([0x5a; 512]));
@@ -173,15 +209,15 @@ fn a_failed_put_gives_up(rt: HostRuntime) -> Result<(), Fail> {
         failing_to_puts: THIRD_PUT,
         ..ONE_SHELF
     };
-    let left = run(&rt, rt.alloc(), AT_ONCE, failing)?;
     let text = transcript(rt.alloc(), ["", lines, ""])?;
+    let left = run(&rt, rt.alloc(), AT_ONCE, failing)?;
     assert!(&rt; left.status == Status::GaveUp && left.output.bytes() == text.as_slice());
     let failing = Given {
         failing_to_puts: THIRD_PUT,
         ..TWO_SHELVES
     };
-    let mut left = run(&rt, rt.alloc(), MOVING_LANES, failing)?;
     let text = transcript(rt.alloc(), [BEFORE_MOVE, lines, AFTER_MOVE])?;
+    let mut left = run(&rt, rt.alloc(), MOVING_LANES, failing)?;
     assert!(&rt; left.status == Status::GaveUp && left.output.bytes() == text.as_slice());
     assert!(&rt; block_of(&mut left.from, 1, 14) == Some([0x22; 512]));
     assert!(&rt; block_of(&mut left.to, 1, 14) == Some([0; 512]));

@@ -1,34 +1,18 @@
-use Rattle.std.proofs.Common.{◌≡◌, ◌==◌, ◌⊎◌, inl, inr, ⊎_elim, ℕ, zero, suc, ◌+◌, ◌-◌, ◌%◌, ◌<◌, ◌≤◌, Bool, true, false, not, cond, Option, Some, None, List, [], ◌∷◌, ◌++◌, ap, ap₂, ◌∙◌, arith, get_or, length, refl, slice_get, slice_index_or, slice_set, subst, sym}
+use Rattle.std.proofs.Common.{◌≡◌, ◌==◌, ⊎_elim, ℕ, ◌+◌, ◌%◌, ◌<◌, Bool, not, cond, Some, List, [], ◌∷◌, ◌++◌, ap, ap₂, ◌∙◌, arith, get_or, length, slice_get, slice_index_or, slice_set, subst, sym}
 use Rattle.std.proofs.Math.Nat.{mod-add-mod, mod-eq_of_lt, mod-lt}
 use Rattle.std.proofs.lemmas.Bool.{cases_eq, eq-eqb, ne_eqb}
 use Rattle.std.proofs.lemmas.Grind.{get_or-set_at}
-use Rattle.std.proofs.lemmas.List.{get_or-set_other, length_push}
+use Rattle.std.proofs.lemmas.List.{get_or-set_other, length-set, length_push}
 use Rattle.std.proofs.lemmas.Nat.{from_le_bytes-to_le_bytes_4}
 use Rattle.std.proofs.lemmas.Option.{slice_get_within, slice_get-get_or}
+use Rattle.mig_base.proofs.ListLemmas.{slice_get-push_cases}
 use Rattle.nvm_model.specs.Event.{phase_of}
-use Rattle.nvm_model.specs.Ring.{places_between}
-use Rattle.nvm_model.proofs.PlaceLemmas.{mods-apart, next_place-mod, phase_of-kept, phase_of-wrapped, tail-from_count}
+use Rattle.nvm_model.proofs.PlaceLemmas.{mods-apart, next_place-mod, phase_of-kept, phase_of-wrapped}
 use Rattle.data_queue.specs.declared.change.Change.{Change}
 use Rattle.data_queue.specs.Change.{IsChange, change_bytes, change_of}
 use Rattle.data_queue.specs.Log.{IsLog, QueueState}
 
 -- What a queue stands for, from one call to the next.
-
--- an element of a list with one more at its end is that one, or stands where it stood
-push_cases : {X : Type 0} (xs : List X) (y x : X) (i : ℕ) → slice_get (xs ++ y ∷ []) i ≡ Some x → (slice_get xs i ≡ Some x) ⊎ ((i ≡ length xs) × (y ≡ x))
-push_cases [] y x zero is = inr (refl, ap (λ (o : Option _). slice_index_or (list_of o) 0 y) is)
-  where
-    list_of : {X : Type 0} → Option X → List X
-    list_of None = []
-    list_of (Some z) = z ∷ []
-push_cases [] y x (suc i) is = inl is
-push_cases (z ∷ xs) y x zero is = inl is
-push_cases (z ∷ xs) y x (suc i) is = ⊎_elim (λ old. inl old) (λ last. inr (ap suc last.0, last.1)) (push_cases xs y x i is)
-
-pub length_set : {X : Type 0} (xs : List X) (i : ℕ) (y : X) → length (slice_set xs i y) ≡ length xs
-length_set [] i y = refl
-length_set (x ∷ xs) zero y = refl
-length_set (x ∷ xs) (suc i) y = let tail = length_set xs i y in omega (arith, tail)
 
 -- the phase tag of the next entry
 phase_next : (n m : ℕ) → 0 < n → phase_of n (m + 1) ≡ cond (((m + 1) % n) == 0) (not (phase_of n m)) (phase_of n m)
@@ -42,7 +26,7 @@ pub log_more : (q new : QueueState) (posted : List Change) (taken : ℕ) (c : Ch
     new.cells ≡ slice_set q.cells q.next (change_bytes c q.phase) → new.head ≡ q.head → new.waiting ≡ q.waiting + 1 → new.next ≡ (q.next + 1) % length q.cells →
     new.phase ≡ cond (((q.next + 1) % length q.cells) == 0) (not q.phase) q.phase → IsLog q posted taken → IsLog new (posted ++ c ∷ []) taken
 log_more q new posted taken c some room change cells head waiting next phase log =
-    let size : length new.cells ≡ length q.cells = ap length cells ∙ length_set q.cells q.next (change_bytes c q.phase) in
+    let size : length new.cells ≡ length q.cells = ap length cells ∙ length-set q.cells q.next (change_bytes c q.phase) in
     let count = length_push posted c in
     let after : (q.next + 1) % length q.cells ≡ (length posted + 1) % length q.cells =
     ap (λ n. (n + 1) % length q.cells) log.next ∙ next_place-mod (length q.cells) (length posted) in
@@ -60,7 +44,7 @@ log_more q new posted taken c some room change cells head waiting next phase log
           ∙ sym (phase_next n (length posted) some)
           ∙ ap (λ k. phase_of n k) (sym count)
           ∙ ap (λ k. phase_of k (length (posted ++ c ∷ []))) (sym size);
-      changes = λ m x there. ⊎_elim (λ old. log.changes m x old) (λ last. subst IsChange last.1 change) (push_cases posted c x m there);
+      changes = λ m x there. ⊎_elim (λ old. log.changes m x old) (λ last. subst IsChange last.1 change) (slice_get-push_cases posted c x m there);
       written = λ m x there late. rw (size, cells) (⊎_elim
           (λ old.
           let before = slice_get_within posted m x old in
@@ -69,7 +53,7 @@ log_more q new posted taken c some room change cells head waiting next phase log
           (λ last.
           get_or-set_at q.cells q.next (m % n) (change_bytes c q.phase) [] (ap (λ k. k % n) last.0 ∙ sym log.next) next_in
           ∙ rw (last.0, ← last.1) (ap (change_bytes c) log.phase))
-          (push_cases posted c x m there));
+          (slice_get-push_cases posted c x m there));
       unwritten = λ m late within. rw cells (
           let here : length posted % n ≡ length posted = mod-eq_of_lt (omega (arith, late, count, within, size)) in
           get_or-set_other q.cells q.next m (change_bytes c q.phase) [] (λ same. omega (arith, late, count, same, log.next, here))

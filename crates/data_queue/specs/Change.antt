@@ -1,6 +1,5 @@
 use Rattle.std.specs.Prelude.{ℕ, ◌<◌, ◌≤◌, Bool, cond, List, [], ◌∷◌, ◌++◌, take, drop, replicate}
 use Rattle.std.specs.Int.{w32, w64, to_le_bytes, from_le_bytes}
-use Rattle.mig_base.specs.declared.span.Span.{Span}
 use Rattle.data_queue.specs.declared.change.Change.{Change}
 
 -- A change entry: namespace 1, the first block at byte 8, the number of blocks at byte 16, the kind `written` at byte 20,

@@ -1,13 +1,13 @@
-use Rattle.std.proofs.Common.{◌≡◌, ◌⊎◌, inl, inr, ⊎_elim, ℕ, zero, suc, ◌+◌, ◌-◌, ◌<◌, ◌≤◌, Bool, true, false, ◌||◌, cond, List, [], ◌∷◌, ◌++◌, Result, Ok, Err, ap, ◌∙◌, arith, drop, get_or, length, refl, replicate, rules, set, slice_index_or, slice_set, subst, sym, take}
+use Rattle.std.proofs.Common.{◌≡◌, ◌⊎◌, inl, inr, ⊎_elim, ℕ, zero, suc, ◌+◌, ◌-◌, ◌<◌, ◌≤◌, Bool, true, false, List, [], ◌∷◌, ◌++◌, Result, Ok, Err, ap, ◌∙◌, arith, drop, length, refl, replicate, slice_index_or, slice_set, subst, sym, take}
 use Rattle.std.proofs.lemmas.Bool.{cases_eq, cases_lt}
 use Rattle.std.proofs.lemmas.Grind.{get_or-set_at}
-use Rattle.std.proofs.lemmas.List.{get_or-replicate, get_or-set_other, length-replicate}
+use Rattle.std.proofs.lemmas.List.{get_or-replicate, get_or-set_other, length-replicate, length-set}
 use Rattle.mig_base.specs.declared.span.Span.{Span}
 use Rattle.move_core.specs.declared.event.CoreEvent.{CoreEvent}
 use Rattle.move_core.specs.declared.event.CoreEvent.TheVariants.{Piece, Post, Copy, Take, Restart, Suspend, Resume, GiveUp}
 use Rattle.move_core.specs.declared.phase.CorePhase.{CorePhase}
 use Rattle.move_core.specs.declared.phase.CorePhase.TheVariants.{Moving, Suspended, Resumed, GaveUp}
-use Rattle.move_core.specs.State.{CoreState, IsCopying, IsWrite, May, NoneOwed, NoneUnposted, Steps, after, block_at, is_lost, is_owed, owe_blocks, owe_oldest, put_blocks, spans_of, start_core, written}
+use Rattle.move_core.specs.State.{CoreState, May, NoneUnposted, Steps, after, block_at, is_lost, is_owed, owe_blocks, owe_oldest, put_blocks, spans_of, start_core, written}
 use Rattle.move_core.specs.Covered.{CoveredIn, InLane, InSome, IsCalm, IsCoreCovered, IsCovered, IsIn, IsShaped, KeepsSides}
 use Rattle.move_core.specs.Does.{Does, Goes}
 
@@ -15,18 +15,13 @@ use Rattle.move_core.specs.Does.{Does, Goes}
 
 -- Lists that are written at a span.
 
-length_set : {X : Type 0} (xs : List X) (i : ℕ) (y : X) → length (slice_set xs i y) ≡ length xs
-length_set [] i y = refl
-length_set (x ∷ xs) zero y = refl
-length_set (x ∷ xs) (suc i) y = let tail = length_set xs i y in omega (arith, tail)
-
 length_put : (first n : ℕ) (bytes : List ℕ) (blocks : List (List ℕ)) → length (put_blocks first n bytes blocks) ≡ length blocks
 length_put first zero bytes blocks = refl
-length_put first (suc n) bytes blocks = length_set (put_blocks first n bytes blocks) (first + n) _ ∙ length_put first n bytes blocks
+length_put first (suc n) bytes blocks = length-set (put_blocks first n bytes blocks) (first + n) _ ∙ length_put first n bytes blocks
 
 length_owe : (first n : ℕ) (owed : List Bool) → length (owe_blocks first n owed) ≡ length owed
 length_owe first zero owed = refl
-length_owe first (suc n) owed = length_set (owe_blocks first n owed) (first + n) true ∙ length_owe first n owed
+length_owe first (suc n) owed = length-set (owe_blocks first n owed) (first + n) true ∙ length_owe first n owed
 
 -- a block that isn't written stays
 put_other : (first n b : ℕ) (bytes : List ℕ) (blocks : List (List ℕ)) → (first ≤ b → b < first + n → ⊥) → block_at (put_blocks first n bytes blocks) b ≡ block_at blocks b
@@ -248,7 +243,7 @@ shaped_written Moving c lane span bytes shaped =
     record {
       destination = shaped.destination ∙ sym long;
       owed = shaped.owed ∙ sym long;
-      lanes = length_set c.unposted (lane - 1) (spans_of c lane ++ span ∷ []) ∙ shaped.lanes;
+      lanes = length-set c.unposted (lane - 1) (spans_of c lane ++ span ∷ []) ∙ shaped.lanes;
     }
 shaped_written Suspended c lane span bytes shaped = shaped
 shaped_written Resumed c lane span bytes shaped = record {
@@ -266,10 +261,10 @@ length_taken (span ∷ spans) owed = length_owe span.first span.count owed
 
 shaped_after : (c : CoreState) (e : CoreEvent) → IsShaped c → IsShaped (after c e)
 shaped_after c (Piece lane span bytes) shaped = shaped_written c.phase c lane span bytes shaped
-shaped_after c (Post lane) shaped = record { destination = shaped.destination; owed = shaped.owed; lanes = length_set c.unposted (lane - 1) (drop 1 (spans_of c lane)) ∙ shaped.lanes }
+shaped_after c (Post lane) shaped = record { destination = shaped.destination; owed = shaped.owed; lanes = length-set c.unposted (lane - 1) (drop 1 (spans_of c lane)) ∙ shaped.lanes }
 shaped_after c (Copy block) shaped = record {
-  destination = length_set c.destination block (block_at c.source block) ∙ shaped.destination;
-  owed = length_set c.owed block false ∙ shaped.owed;
+  destination = length-set c.destination block (block_at c.source block) ∙ shaped.destination;
+  owed = length-set c.owed block false ∙ shaped.owed;
   lanes = shaped.lanes;
 }
 shaped_after c Take shaped = record { destination = shaped.destination; owed = length_taken c.log c.owed ∙ shaped.owed; lanes = shaped.lanes }

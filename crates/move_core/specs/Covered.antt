@@ -1,4 +1,4 @@
-use Rattle.std.specs.Prelude.{◌≡◌, ◌⊎◌, ℕ, ◌+◌, ◌<◌, ◌≤◌, Bool, true, false, List, [], ◌∷◌, length}
+use Rattle.std.specs.Prelude.{◌≡◌, ◌⊎◌, ℕ, ◌+◌, ◌<◌, ◌≤◌, true, false, List, [], ◌∷◌, length}
 use Rattle.mig_base.specs.declared.span.Span.{Span}
 use Rattle.move_core.specs.declared.event.CoreEvent.{CoreEvent}
 use Rattle.move_core.specs.declared.event.CoreEvent.TheVariants.{Resume}

@@ -1,4 +1,4 @@
-use Rattle.std.proofs.Common.{◌≡◌, ◌<◌, [], ◌∙◌, ap, arith, length, set}
+use Rattle.std.proofs.Common.{[], ◌∙◌, ap, arith, set}
 use Rattle.move_core.proofs.RoomLemmas.{set_next}
 use Rattle.move_core.proofs.steps.clear_all.Goals as goal
 

@@ -1,4 +1,4 @@
-use Rattle.std.proofs.Common.{arith, rules}
+use Rattle.std.proofs.Common.{rules}
 use Rattle.move_core.proofs.RoomLemmas.{with_taken}
 use Rattle.move_core.proofs.state.Core.take.Goals as goal
 

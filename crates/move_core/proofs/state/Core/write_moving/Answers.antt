@@ -1,4 +1,4 @@
-use Rattle.std.proofs.Common.{◌≡◌, ◌<◌, ◌-◌, ◌++◌, ◌∷◌, [], ◌∙◌, ap, arith, get_or, length, rules, subst, sym}
+use Rattle.std.proofs.Common.{◌<◌, ◌-◌, length, rules, subst, sym}
 use Rattle.std.specs.List.{AllByRecursion}
 use Rattle.move_core.specs.Room.{IsInside}
 use Rattle.move_core.proofs.RoomLemmas.{all_and_last, all_at, with_lane, with_source}
