@@ -3,6 +3,8 @@
 #![tactic(auto)]
 
 #[cfg(test)]
+mod admin_commands;
+#[cfg(test)]
 mod controllers;
 #[cfg(test)]
 mod guests;
