@@ -1,3 +1,6 @@
+ghost use Rattle.std.specs.Prelude.{◌≡◌, Ok};
+ghost use Rattle.adm_values.specs.Command.{IsCommand};
+
 use super::*;
 
 /// Set Controller State, Migration Send with selector 2: byte 7 of the image on, 40 bytes; identifier 0x1234.
@@ -31,7 +34,7 @@ fn a_command_and_its_bytes(rt: HostRuntime) {
         },
     };
     assert!(rt; command.to_bytes() == SET);
-    assert!(rt; AdminCmd::from_bytes(&SET) == Ok(command));
+    assert!(rt; AdminCmd::from_bytes(&SET) == Ok(command) && received(&command) == Ok(command));
 }
 
 #[test]
@@ -58,4 +61,12 @@ fn queues_of_no_cell_and_of_one(rt: HostRuntime) {
     bytes[44] = 2;
     let two = AdminCmd::from_bytes(&bytes).map(|c| c.what);
     assert!(rt; two == Ok(What::CreateQueue { cells: 2 }));
+}
+
+/// Whatever command is sent is received.
+fn received(c: &AdminCmd) -> Result<AdminCmd, AdminRefusal>
+    requires { IsCommand c.now }
+    ensures { result ≡ Ok c.now }
+{
+    AdminCmd::from_bytes(&c.to_bytes())
 }

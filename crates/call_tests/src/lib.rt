@@ -3,6 +3,7 @@
 #![tactic(auto)]
 
 #[cfg(test)]
+mod admin_commands;
 mod commands;
 #[cfg(test)]
 mod controllers;
