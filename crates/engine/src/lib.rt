@@ -1,6 +1,7 @@
-//! The top call: it reads words and a script, and runs the script's guests over the hosts or shows what it asks for. Its
-//! contract is the product's: the transcript of a run is a legal and complete history of one controller over one array
-//! of blocks, the hosts hold the worlds that it reaches, and every other answer has its cause.
+//! The top call: it reads words and a script, and runs the script's guests over the hosts or shows what it asks for.
+//! Its contract is the product's: the transcript of a run is a legal and complete history of one controller over one
+//! array of blocks, each medium got the calls of that run and no other, the hosts hold the worlds that it reaches, and
+//! every other answer has its cause.
 #![tactic(auto)]
 
 mod free_gate;
