@@ -4,6 +4,7 @@
 
 #[cfg(test)]
 mod admin_commands;
+#[cfg(test)]
 mod commands;
 #[cfg(test)]
 mod controllers;

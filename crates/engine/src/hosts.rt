@@ -54,8 +54,10 @@ pub(crate) fn open_places<M: Medium>(
     to: &mut Host<M>,
 ) -> Result<(Place<M>, Place<M>), OutOfMemory>
     requires head { IsHead head.now }
-    requires sizes { sizes_in M.state from.old.shelves.items ≡ replicate (head.now.blocks / head.now.shelf) head.now.shelf }
-    requires to_sizes { sizes_in M.state to.old.shelves.items ≡ replicate (head.now.blocks / head.now.shelf) head.now.shelf }
+    requires sizes { sizes_in M.state from.old.shelves.items
+        ≡ replicate (head.now.blocks / head.now.shelf) head.now.shelf }
+    requires to_sizes { sizes_in M.state to.old.shelves.items
+        ≡ replicate (head.now.blocks / head.now.shelf) head.now.shelf }
     ensures opened { IfOk result (λ x. IsOpened M.state head.now from.old.shelves.items x.0
         × IsOpened M.state head.now to.old.shelves.items x.1) }
     ensures taken { OnOk result ((from.new.shelves.items ≡ []) × (to.new.shelves.items ≡ [])) }
@@ -82,7 +84,8 @@ fn open_place<M: Medium>(
     host: &mut Host<M>,
 ) -> Result<Place<M>, OutOfMemory>
     requires head { IsHead head.now }
-    requires sizes { sizes_in M.state host.old.shelves.items ≡ replicate (head.now.blocks / head.now.shelf) head.now.shelf }
+    requires sizes { sizes_in M.state host.old.shelves.items
+        ≡ replicate (head.now.blocks / head.now.shelf) head.now.shelf }
     ensures opened { IfOk result (IsOpened M.state head.now host.old.shelves.items) }
     ensures taken { OnOk result (host.new.shelves.items ≡ []) }
     ensures back { OnErr result (host.new.shelves.items ≡ host.old.shelves.items) }
@@ -101,7 +104,8 @@ fn take_namespace<M: Medium>(
     host: &mut Host<M>,
 ) -> Result<Namespace<M>, OutOfMemory>
     requires head { IsHead head.now }
-    requires sizes { sizes_in M.state host.old.shelves.items ≡ replicate (head.now.blocks / head.now.shelf) head.now.shelf }
+    requires sizes { sizes_in M.state host.old.shelves.items
+        ≡ replicate (head.now.blocks / head.now.shelf) head.now.shelf }
     ensures media { IfOk result (λ n. IsNamespaceOf head.now n × (media_of n ≡ host.old.shelves.items)
         × HaveSize M.state head.now.shelf (media_of n)) }
     ensures taken { OnOk result (host.new.shelves.items ≡ []) }

@@ -64,8 +64,10 @@ pub(crate) fn unbuilt_line(head: &Head) -> Option<u32>
 /// Whether a migration, where the head asks for one, copies everything while the guests are suspended.
 fn moves_suspended(head: &Head) -> bool
     requires { head.now.lanes ≤ 8 }
-    ensures yes { result ≡ true → IfSome head.now.migrate (λ _. (head.now.small ≡ head.now.blocks) × (window_pages head.now ≤ head.now.pages)) }
-    ensures no { result ≡ false → IfSome head.now.migrate (λ _. (head.now.small ≡ head.now.blocks) × (window_pages head.now ≤ head.now.pages)) → ⊥ }
+    ensures yes { result ≡ true → IfSome head.now.migrate
+        (λ _. (head.now.small ≡ head.now.blocks) × (window_pages head.now ≤ head.now.pages)) }
+    ensures no { result ≡ false → IfSome head.now.migrate
+        (λ _. (head.now.small ≡ head.now.blocks) × (window_pages head.now ≤ head.now.pages)) → ⊥ }
 {
     match head.migrate {
         None => true,

@@ -57,7 +57,8 @@ impl Status {
     ///
     /// `Failed` only where the sink's count of faults rose. A front of the text was written then.
     pub fn write<K: Sink>(&self, sink: &mut K) -> Result<(), Failed>
-        ensures { Writes (status_text self.now) (K.bytes sink.old) (K.bytes sink.new) (K.faults sink.old) (K.faults sink.new) result }
+        ensures { Writes (status_text self.now) (K.bytes sink.old) (K.bytes sink.new)
+            (K.faults sink.old) (K.faults sink.new) result }
     {
         let mut line = LineBuf::new();
         self.push(&mut line);

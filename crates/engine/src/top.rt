@@ -29,9 +29,9 @@ use session::{Ending, Place, Session, run};
 use std::alloc::Global;
 use std::thread::Threads;
 
-/// Does what the words say with the script in the input: `run serial BLOCKS SHELF` runs it over the hosts and writes the
-/// transcript, `show` writes what it asks for and the Identify data that its guests see, and `check` judges a transcript
-/// that stands behind it.
+/// Does what the words say with the script in the input: `run serial BLOCKS SHELF` runs it over the hosts and writes
+/// the transcript, `show` writes what it asks for and the Identify data that its guests see, and `check` judges a
+/// transcript that stands behind it.
 ///
 /// A run takes all its memory before its first line. Where nothing was run, nothing was written, and both hosts are as
 /// they were.
@@ -56,13 +56,16 @@ pub fn nvmigrate<R: Threads + Sync, S: Source, K: Sink, M: Medium + Send, G: Gat
     // The line and the cause that it tells are those of the first line that isn't right.
     ensures bad_line { IfRuns (map string_bytes words.now) (IsBadRun (S.left input.old) result) }
     // The word `show`: the output took the script's plan, or a front of it, and neither host was touched.
-    ensures shown { IfShows (map string_bytes words.now) (IsShown (S.left input.old) (K.bytes output.old) (K.bytes output.new) result) }
+    ensures shown { IfShows (map string_bytes words.now) (IsShown (S.left input.old)
+        (K.bytes output.old) (K.bytes output.new) result) }
     ensures untouched { IfShows (map string_bytes words.now) ((from.new ≡ from.old) × (to.new ≡ to.old)) }
     // The word `check`: the output took what is true of the transcript behind the script, and the answer says the same.
-    ensures checked { IfChecks (map string_bytes words.now) (IsChecked (S.left input.old) (K.bytes output.old) (K.bytes output.new) result) }
+    ensures checked { IfChecks (map string_bytes words.now) (IsChecked (S.left input.old)
+        (K.bytes output.old) (K.bytes output.new) result) }
     ensures kept { IfChecks (map string_bytes words.now) ((from.new ≡ from.old) × (to.new ≡ to.old)) }
     ensures too_long { UnlessChecks (map string_bytes words.now) (IsLong (S.left input.old) result) }
-    ensures host_size { IfRuns (map string_bytes words.now) (IsHostSize (S.left input.old) (sizes_in M.state from.old.shelves.items) (sizes_in M.state to.old.shelves.items) result) }
+    ensures host_size { IfRuns (map string_bytes words.now) (IsHostSize (S.left input.old)
+        (sizes_in M.state from.old.shelves.items) (sizes_in M.state to.old.shelves.items) result) }
     ensures read_fault { IsReadFault (S.faults input.old) (S.faults input.new) result }
     ensures write_fault { IsWriteFault (K.faults output.old) (K.faults output.new) result }
 {
