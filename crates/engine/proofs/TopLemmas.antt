@@ -9,11 +9,11 @@ use Rattle.nvm_model.specs.Medium.{MediumState, told_in}
 use Rattle.nvm_model.specs.Shelf.{joined}
 use Rattle.nvm_blocks.specs.Namespace.{media_of}
 use Rattle.nvm_blocks.specs.ShelfState.{ShelfState}
-use Rattle.turns.specs.declared.run.RunPhase.TheVariants.{Over}
-use Rattle.turns.specs.declared.run.Side.{Side}
-use Rattle.turns.specs.declared.run.Side.TheVariants.{Source, Destination}
-use Rattle.turns.specs.Run.{SinkState, Snapshot, Task, by_side, lines_in, memory_of, start_of}
-use Rattle.turns.specs.Told.{Tells, is_source, serial}
+use Rattle.nvm_model.specs.declared.run.RunPhase.TheVariants.{Over}
+use Rattle.nvm_model.specs.declared.run.Side.{Side}
+use Rattle.nvm_model.specs.declared.run.Side.TheVariants.{Source, Destination}
+use Rattle.nvm_model.specs.Run.{SinkState, Snapshot, Task, by_side, lines_in, memory_of, start_of}
+use Rattle.nvm_model.specs.Told.{Tells, is_source, serial}
 use Rattle.turns.proofs.AskedLaws.{run_asks}
 use Rattle.turns.proofs.EndLaws.{is_untouched}
 use Rattle.turns.proofs.RanLaws.{ran}

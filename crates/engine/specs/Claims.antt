@@ -88,6 +88,7 @@ OnRun TooLong claim = Unit {0}
 OnRun OutOfMemory claim = Unit {0}
 OnRun (HostSize kept asked) claim = Unit {0}
 OnRun ReadFault claim = Unit {0}
+OnRun (Refused line why) claim = Unit {0}
 
 -- `Usage` exactly where the words are no form
 abbrev pub IsUsage : List (List ℕ) → Status → Type 0

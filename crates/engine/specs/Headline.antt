@@ -13,11 +13,11 @@ use Rattle.nvm_model.specs.Turn.{RunsInTurns}
 use Rattle.nvm_model.specs.World.{World}
 use Rattle.guest_ram.specs.declared.host.Host.{Host}
 use Rattle.guest_ram.specs.Window.{WindowState}
-use Rattle.turns.specs.declared.run.RunPhase.TheVariants.{Over}
-use Rattle.turns.specs.declared.run.Side.TheVariants.{Source, Destination}
+use Rattle.nvm_model.specs.declared.run.RunPhase.TheVariants.{Over}
+use Rattle.nvm_model.specs.declared.run.Side.TheVariants.{Source, Destination}
 use Rattle.turns.specs.Ran.{Ran}
-use Rattle.turns.specs.Run.{IsStage, IsWritten, SinkState, Snapshot, Stage, calls_at, lines_in, media_at, memory_at, start_of}
-use Rattle.turns.specs.Told.{HasStopped, IsUntouched, SidesHold, serial}
+use Rattle.nvm_model.specs.Run.{IsStage, IsWritten, SinkState, Snapshot, Stage, calls_at, lines_in, media_at, memory_at, start_of}
+use Rattle.nvm_model.specs.Told.{HasStopped, IsUntouched, SidesHold, serial}
 use Rattle.session.specs.declared.ending.Ending.{Ending}
 use Rattle.session.specs.Place.{pages_of}
 use Rattle.session.specs.Sides.{IsEnding}

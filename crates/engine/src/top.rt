@@ -3,8 +3,8 @@ ghost use Rattle.std.specs.Prelude.{◌≡◌, ◌≤◌, ◌/◌, ◌++◌, [],
 ghost use Rattle.nvm_model.specs.Medium.{sizes_in};
 ghost use Rattle.nvm_model.specs.ScriptText.{IsScript};
 ghost use Rattle.nvm_blocks.specs.Namespace.{media_of};
-ghost use Rattle.turns.specs.Run.{start_of};
-ghost use Rattle.turns.specs.Told.{serial};
+ghost use Rattle.nvm_model.specs.Run.{start_of};
+ghost use Rattle.nvm_model.specs.Told.{serial};
 ghost use Rattle.session.specs.Opened.{IsNewPlace};
 ghost use Rattle.session.specs.Sides.{IsNewSession, sink};
 ghost use Rattle.engine.specs.Built.{IsTaken, Spells};

@@ -13,3 +13,5 @@ pub mod ScriptText
 pub mod Ring
 pub mod Turn
 pub mod Stop
+pub mod Run
+pub mod Told

@@ -6,6 +6,7 @@ mod command;
 mod line;
 mod piece;
 mod ring;
+mod run;
 mod script;
 mod trace;
 
@@ -13,5 +14,6 @@ pub use command::{Command, Completion, Outcome, Pages, Work};
 pub use line::Line;
 pub use piece::{Piece, PieceResult, ShelfEntry, piece_calls_have_effect, piece_is_local};
 pub use ring::RingState;
+pub use run::{RunPhase, Side};
 pub use script::{Act, Acts, Head, LaneSet, Script};
 pub use trace::Step;

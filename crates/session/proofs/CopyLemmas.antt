@@ -8,8 +8,8 @@ use Rattle.nvm_model.specs.Chain.{Chain}
 use Rattle.nvm_model.specs.Medium.{At, IsAt, MediumState}
 use Rattle.nvm_model.proofs.ChainLemmas.{chain_more}
 use Rattle.nvm_blocks.specs.Namespace.{HasCalled, NamespaceState, media_of}
-use Rattle.turns.specs.Run.{AllCopied, CopiesAll, CopiesUpTo, Copy, at_block, get_of, gets_of, put_of, puts_of}
-use Rattle.turns.specs.Run.CopyEnd.{Copied, NotRead, NotWritten}
+use Rattle.nvm_model.specs.Run.{AllCopied, CopiesAll, CopiesUpTo, Copy, at_block, get_of, gets_of, put_of, puts_of}
+use Rattle.nvm_model.specs.Run.CopyEnd.{Copied, NotRead, NotWritten}
 use Rattle.session.specs.Copies.{AreAlike, AreEnded, Both, CopiesTo, SamePlace, both}
 use Rattle.session.specs.Place.{PlaceState}
 use Rattle.session.proofs.ShelvesLemmas.{called_same, same_more, same_stay}

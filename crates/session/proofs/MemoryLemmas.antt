@@ -16,7 +16,7 @@ use Rattle.nvm_model.specs.ScriptText.{IsScript}
 use Rattle.nvm_model.specs.World.{Lane, new_lane, set_of}
 use Rattle.nvm_ring.specs.Queues.{HasWindow}
 use Rattle.controller.specs.Pair.{ControllerState, PairState}
-use Rattle.turns.specs.Run.{memory_of}
+use Rattle.nvm_model.specs.Run.{memory_of}
 use Rattle.session.specs.declared.lane_run.LaneRun.{LaneRun}
 use Rattle.session.specs.Lanes.{HaveWindows, IsWindowOf, Stands, window_of}
 use Rattle.session.specs.Place.{AreRunsOf, StandsFor}
@@ -125,7 +125,6 @@ have_pages {s} {windows} head have =
     get_or-map many windows i no_window ∙ (at_place have i there).size ∙ ap (λ (j : ℕ). wanted (get_or s.head.sets j none)) place ∙ ap wanted (sym (get_or-take s.head.lanes s.head.sets i none there))
     ∙ sym (get_or_map wanted sets i none 0 (omega (arith, there, as_long)))) in
     length-flat_map (λ (w : WindowState). w.pages) windows ∙ sym (sum-map many windows) ∙ ap sum same
-
 
 -- Whose memory it is.
 

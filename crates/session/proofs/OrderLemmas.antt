@@ -11,13 +11,14 @@ use Rattle.nvm_model.specs.Medium.{MediumState}
 use Rattle.nvm_model.specs.Turn.{word_state}
 use Rattle.nvm_model.proofs.ChainLemmas.{chain_more}
 use Rattle.hall.specs.Plan.{PlanState, pieces_of}
-use Rattle.turns.specs.Run.{Here, IsPiece, MayBeNext, piece_line}
+use Rattle.nvm_model.specs.Run.{Here, IsPiece, MayBeNext, piece_line}
 use Rattle.session.specs.declared.lane_run.LaneRun.{LaneRun}
 use Rattle.session.specs.declared.order.Order.{Order}
 use Rattle.session.specs.LaneParts.{Leads}
 use Rattle.session.specs.Lanes.{HasWords}
 use Rattle.session.specs.Phases.{DoesPieces, HasPlan, StandsNext, StandsOver}
-use Rattle.session.specs.Place.{PlaceState, StandsOn, machine, serial}
+use Rattle.nvm_model.specs.Told.{serial}
+use Rattle.session.specs.Place.{PlaceState, StandsOn, machine}
 use Rattle.session.specs.Work.{AreLeft, HasResult, HasResultAt}
 use Rattle.session.proofs.WorkLemmas.{element_at, pieces_fit}
 

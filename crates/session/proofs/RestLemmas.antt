@@ -10,7 +10,7 @@ use Rattle.mig_base.proofs.ListLemmas.{empty_list}
 use Rattle.nvm_ring.proofs.QueueLemmas.{last_told, told_few}
 use Rattle.controller.specs.Pair.{ControllerState, PairState, outcomes_of, pair_of, worked}
 use Rattle.turns.specs.Frame.{AreAtRest, AreServed, IsAtRest, total_left, work_left}
-use Rattle.turns.specs.Run.{among}
+use Rattle.nvm_model.specs.Run.{among}
 use Rattle.turns.proofs.PartLaws.{at_rest_from, first_of, later_of, served_from}
 use Rattle.session.specs.declared.lane_run.LaneRun.{LaneRun}
 use Rattle.session.specs.Lanes.{IsRunOf, Stands}

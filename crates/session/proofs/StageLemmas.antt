@@ -15,12 +15,12 @@ use Rattle.controller.specs.Pair.{ControllerState}
 use Rattle.guest_ram.specs.Ram.{all_pages, shape}
 use Rattle.guest_ram.specs.Window.{WindowState}
 use Rattle.nvm_blocks.specs.Namespace.{NamespaceState, media_of}
-use Rattle.turns.specs.declared.run.RunPhase.{RunPhase}
-use Rattle.turns.specs.declared.run.RunPhase.TheVariants.{New, Running, Suspended, Over}
-use Rattle.turns.specs.declared.run.Side.{Side}
-use Rattle.turns.specs.declared.run.Side.TheVariants.{Source, Destination}
-use Rattle.turns.specs.Run.{AreComplete, CopiesAll, CopiesUpTo, Copy, Here, IsDue, IsTurn, SinkState, Snapshot, Task, all_blocks, among, gets_of, here, lines_of, memory_of, opposite, puts_of, turn_lines}
-use Rattle.turns.specs.Run.Stage.{Title, Turn, Begin, Resume, GiveUp, End}
+use Rattle.nvm_model.specs.declared.run.RunPhase.{RunPhase}
+use Rattle.nvm_model.specs.declared.run.RunPhase.TheVariants.{New, Running, Suspended, Over}
+use Rattle.nvm_model.specs.declared.run.Side.{Side}
+use Rattle.nvm_model.specs.declared.run.Side.TheVariants.{Source, Destination}
+use Rattle.nvm_model.specs.Run.{AreComplete, CopiesAll, CopiesUpTo, Copy, Here, IsDue, IsTurn, SinkState, Snapshot, Task, all_blocks, among, gets_of, here, lines_of, memory_of, opposite, puts_of, turn_lines}
+use Rattle.nvm_model.specs.Run.Stage.{Title, Turn, Begin, Resume, GiveUp, End}
 use Rattle.turns.proofs.RunLaws.{went_more, went_none, went_sent}
 use Rattle.session.specs.declared.ending.Ending.TheVariants.{Done, GaveUp}
 use Rattle.session.specs.declared.lane_run.LaneRun.{LaneRun}
@@ -28,7 +28,8 @@ use Rattle.session.specs.declared.order.Order.{Order}
 use Rattle.session.specs.Copies.{CopiesTo, HandsOver, SamePlace, both}
 use Rattle.session.specs.Lanes.{HaveWindows}
 use Rattle.session.specs.Shelves.{IsNamespaceOf}
-use Rattle.session.specs.Place.{AreAllDone, AreQuiet, DoesTurn, IsPlaceOf, IsReady, PlaceState, StandsFor, StandsOn, machine, pages_of, serial}
+use Rattle.nvm_model.specs.Told.{serial}
+use Rattle.session.specs.Place.{AreAllDone, AreQuiet, DoesTurn, IsPlaceOf, IsReady, PlaceState, StandsFor, StandsOn, machine, pages_of}
 use Rattle.session.specs.Sides.{Goes, GoesTo, IsAhead, IsDueAfter, IsEnding, IsMoveDue, IsOnward, SessionState, Sides, StandsAs, at_side, by_side, less_one, machine_of, sides, turns_ahead}
 use Rattle.session.proofs.MemoryLemmas.{have_pages, same_pages, same_windows, whole_memory}
 use Rattle.session.proofs.ShelvesLemmas.{same_namespace}

@@ -30,13 +30,14 @@ use Rattle.hall.specs.Plan.{PlanState, pieces_of}
 use Rattle.lanes.specs.Guest.{GuestState}
 use Rattle.controller.specs.Pair.{ControllerState, PairState, lane_pieces, outcomes_of, pair_of, worked}
 use Rattle.turns.proofs.NextPieceLaws.{lanes_finished}
-use Rattle.turns.specs.Run.{Here, IsPiece, MayBeNext, NoneLeft, PieceCalled, PieceOnLane}
+use Rattle.nvm_model.specs.Run.{Here, IsPiece, MayBeNext, NoneLeft, PieceCalled, PieceOnLane}
 use Rattle.session.specs.declared.lane_run.LaneRun.{LaneRun}
 use Rattle.session.specs.declared.lane_script.LaneScript.{LaneScript}
 use Rattle.session.specs.LaneParts.{Leads}
 use Rattle.session.specs.Lanes.{ArePlanned, IsLaneOf, IsPlanned, IsRunOf, IsWindowOf, Stands, window_of}
 use Rattle.session.specs.Phases.{AreDone, DoesPieces, HasPieceLeft, HasPlan, StandsNext, StandsOver}
-use Rattle.session.specs.Place.{AreRunsOf, IsPlaceOf, PlaceState, StandsFor, serial}
+use Rattle.nvm_model.specs.Told.{serial}
+use Rattle.session.specs.Place.{AreRunsOf, IsPlaceOf, PlaceState, StandsFor}
 use Rattle.session.specs.Seats.{DoesPieceAt}
 use Rattle.session.specs.Work.{AreLeft, HasResult, HasResultAt, MayPost, digest_told}
 use Rattle.session.proofs.ShelvesLemmas.{same_namespace}

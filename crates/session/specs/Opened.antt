@@ -6,8 +6,9 @@ use Rattle.guest_ram.specs.Window.{WindowState}
 use Rattle.nvm_blocks.specs.Namespace.{media_of}
 use Rattle.controller.specs.declared.controller.Phase.TheVariants.{Running}
 use Rattle.controller.specs.Pair.{IsMade}
-use Rattle.turns.specs.Run.{SinkState, start_of}
-use Rattle.session.specs.Place.{IsPlaceOf, IsReady, PlaceState, serial}
+use Rattle.nvm_model.specs.Run.{SinkState, start_of}
+use Rattle.nvm_model.specs.Told.{serial}
+use Rattle.session.specs.Place.{IsPlaceOf, IsReady, PlaceState}
 use Rattle.session.specs.Shelves.{IsNamespaceOf}
 use Rattle.session.specs.Sides.{SessionState, StandsAs, machine_of, sides}
 

@@ -9,10 +9,11 @@ use Rattle.nvm_model.specs.ScriptText.{IsHead}
 use Rattle.nvm_blocks.specs.Namespace.{media_of}
 use Rattle.hall.specs.Plan.{PlanState, pieces_of}
 use Rattle.controller.specs.Pair.{PairState}
-use Rattle.turns.specs.Run.{Here, IsPiece, PieceCalled, piece_line}
+use Rattle.nvm_model.specs.Run.{Here, IsPiece, PieceCalled, piece_line}
 use Rattle.session.specs.declared.lane_run.LaneRun.{LaneRun}
 use Rattle.session.specs.Lanes.{ArePlanned, IsPlanned}
-use Rattle.session.specs.Place.{AreQuiet, AreRunsOf, IsPlaceOf, PlaceState, StandsFor, serial}
+use Rattle.nvm_model.specs.Told.{serial}
+use Rattle.session.specs.Place.{AreQuiet, AreRunsOf, IsPlaceOf, PlaceState, StandsFor}
 
 -- The phases of a turn: all lanes' plans, then their pieces, then their posts.
 

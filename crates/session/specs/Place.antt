@@ -10,8 +10,8 @@ use Rattle.guest_ram.specs.Window.{WindowState}
 use Rattle.nvm_blocks.specs.Namespace.{NamespaceState, media_of}
 use Rattle.controller.specs.declared.controller.Phase.TheVariants.{Running}
 use Rattle.controller.specs.Pair.{ControllerState, PairState, pair_of}
-use Rattle.turns.specs.Run.{Here, IsTurn, Task, TurnDone, turn_lines}
-use Rattle.turns.specs.Run.Order.{Serial}
+use Rattle.nvm_model.specs.Run.{Here, IsTurn, TurnDone, turn_lines}
+use Rattle.nvm_model.specs.Told.{serial}
 use Rattle.session.specs.declared.lane_run.LaneRun.{LaneRun}
 use Rattle.session.specs.declared.order.Order.{Order}
 use Rattle.session.specs.Lanes.{HasWords, HaveWindows, IsRunOf, Stands, window_of}
@@ -89,10 +89,6 @@ run_work run pair =
 abbrev pub total_work : ℕ → List LaneRun → ControllerState → ℕ
 total_work k [] controller = 0
 total_work k (run ∷ runs) controller = run_work run (pair_of controller k) + total_work (k + 1) runs controller
-
--- a run on one thread
-abbrev pub serial : Script → Task
-serial s = record { script = s; order = Serial }
 
 -- a turn was done, whose events are these
 pub record DoesTurn {M I : Type 0} (state : M → MediumState I) (moves : I → Step → Bool → I → Type 0) (s : Script) (old : Here M) (events : List Line) (m : Machine M) : Type 0 where

@@ -4,11 +4,11 @@ use Rattle.nvm_model.specs.declared.trace.Step.{Step}
 use Rattle.nvm_model.specs.Medium.{MediumState}
 use Rattle.guest_ram.specs.Window.{WindowState}
 use Rattle.nvm_blocks.specs.Namespace.{media_of}
-use Rattle.turns.specs.declared.run.RunPhase.{RunPhase}
-use Rattle.turns.specs.declared.run.RunPhase.TheVariants.{New, Running, Suspended, Over}
-use Rattle.turns.specs.declared.run.Side.{Side}
-use Rattle.turns.specs.declared.run.Side.TheVariants.{Source, Destination}
-use Rattle.turns.specs.Run.{SinkState, Snapshot, Went, here, memory_of}
+use Rattle.nvm_model.specs.declared.run.RunPhase.{RunPhase}
+use Rattle.nvm_model.specs.declared.run.RunPhase.TheVariants.{New, Running, Suspended, Over}
+use Rattle.nvm_model.specs.declared.run.Side.{Side}
+use Rattle.nvm_model.specs.declared.run.Side.TheVariants.{Source, Destination}
+use Rattle.nvm_model.specs.Run.{SinkState, Snapshot, Went, here, memory_of}
 use Rattle.session.specs.declared.ending.Ending.{Ending}
 use Rattle.session.specs.declared.ending.Ending.TheVariants.{Done, GaveUp}
 use Rattle.session.specs.declared.lane_run.LaneRun.{LaneRun}
@@ -17,7 +17,8 @@ use Rattle.session.specs.declared.session.Next.{Next}
 use Rattle.session.specs.declared.session.Next.TheVariants.{Turn, Move, End}
 use Rattle.nvm_model.specs.Turn.{word_state}
 use Rattle.session.specs.Lanes.{IsNewRun}
-use Rattle.session.specs.Place.{AreRunsOf, AreAllDone, IsReady, Machine, PlaceState, StandsOn, pages_of, serial}
+use Rattle.nvm_model.specs.Told.{serial}
+use Rattle.session.specs.Place.{AreRunsOf, AreAllDone, IsReady, Machine, PlaceState, StandsOn, pages_of}
 
 -- What goes where the guests go: the script, the runs of its lanes, the order of pieces, and where the run is. A migration
 -- is due after so many turns, where one is asked for and wasn't begun.

@@ -3,12 +3,13 @@ ghost use Rattle.std.specs.Prelude.{◌≡◌, ◌+◌, ◌-◌, ◌*◌, ◌<�
 ghost use Rattle.nvm_model.specs.declared.line.Line.TheVariants as line;
 ghost use Rattle.nvm_model.specs.declared.piece.Piece.{Piece as ThePiece};
 ghost use Rattle.hall.specs.Plan.{pieces_of};
-ghost use Rattle.turns.specs.Run.{Here, MayBeNext};
+ghost use Rattle.nvm_model.specs.Run.{Here, MayBeNext};
 ghost use Rattle.session.specs.declared.lane_run.LaneRun.{LaneRun};
 ghost use Rattle.nvm_model.specs.declared.piece.PieceResult.{PieceResult as TheResult};
 ghost use Rattle.session.specs.LaneParts.{HasMore, Leads};
 ghost use Rattle.session.specs.Phases.{AreDone, AreUndone, DoesPieces, FitPlan, HasPieceLeft, HasPlan, StandsNext, StandsOver};
-ghost use Rattle.session.specs.Place.{AreRunsOf, StandsOn, machine, serial};
+ghost use Rattle.nvm_model.specs.Told.{serial};
+ghost use Rattle.session.specs.Place.{AreRunsOf, StandsOn, machine};
 ghost use Rattle.session.specs.Work.{AreLeft, HasResultAt, digest_told};
 
 use crate::{LaneRun, Order, Place};

@@ -10,10 +10,9 @@ use crate::text::Text;
 use crate::turn::{MOST_EVENTS, are_all_done};
 use hall::Plan;
 use mig_base::{LaneNo, OutOfMemory};
-use nvm_model::{Line, Script};
+use nvm_model::{Line, RunPhase, Script, Side};
 use std::alloc::Global;
 use std::marker::Model;
-use turns::{RunPhase, Side};
 
 mod stages;
 

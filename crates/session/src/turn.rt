@@ -1,6 +1,6 @@
 // One turn on one thread: a list of events, whose lines are written after it.
 ghost use Rattle.std.specs.Prelude.{◌<◌, IsTrue};
-ghost use Rattle.turns.specs.Run.{Here};
+ghost use Rattle.nvm_model.specs.Run.{Here};
 ghost use Rattle.session.specs.Phases.{HasRoom};
 ghost use Rattle.session.specs.Place.{AreAllDone, AreRunsOf, DoesTurn, IsReady, StandsOn, machine, total_work};
 

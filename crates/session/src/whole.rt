@@ -1,6 +1,6 @@
 // A whole run on one thread.
 ghost use Rattle.std.specs.Prelude.{◌≡◌, is_err, IfOk, None};
-ghost use Rattle.turns.specs.declared.run.RunPhase.TheVariants.{Over};
+ghost use Rattle.nvm_model.specs.declared.run.RunPhase.TheVariants.{Over};
 ghost use Rattle.session.specs.Place.{IsPlaceOf, IsReady, PlaceState};
 ghost use Rattle.session.specs.Sides.{Goes, HasEnded, IsNewSession, IsRunning, by_side, machine_of, sides, sink};
 

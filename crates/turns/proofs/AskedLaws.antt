@@ -4,11 +4,11 @@ use Rattle.nvm_model.specs.declared.trace.Step.{Step}
 use Rattle.nvm_model.specs.Chain.{Chain}
 use Rattle.nvm_model.specs.Medium.{MediumState}
 use Rattle.nvm_model.proofs.ChainLemmas.{chain_keeps}
-use Rattle.turns.specs.declared.run.RunPhase.{RunPhase}
-use Rattle.turns.specs.declared.run.RunPhase.TheVariants.{New, Running, Suspended, Over}
-use Rattle.turns.specs.declared.run.Side.TheVariants.{Source}
-use Rattle.turns.specs.Run.{IsStage, Snapshot, Stage, Task}
-use Rattle.turns.specs.Run.Stage.{Title, Turn, Begin, Resume, GiveUp, End}
+use Rattle.nvm_model.specs.declared.run.RunPhase.{RunPhase}
+use Rattle.nvm_model.specs.declared.run.RunPhase.TheVariants.{New, Running, Suspended, Over}
+use Rattle.nvm_model.specs.declared.run.Side.TheVariants.{Source}
+use Rattle.nvm_model.specs.Run.{IsStage, Snapshot, Stage, Task}
+use Rattle.nvm_model.specs.Run.Stage.{Title, Turn, Begin, Resume, GiveUp, End}
 
 -- What a run's stages do with the migration that its script asks for, whatever the media tell.
 

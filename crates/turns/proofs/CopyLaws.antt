@@ -9,9 +9,9 @@ use Rattle.nvm_model.specs.Chain.{Chain}
 use Rattle.nvm_model.specs.Medium.{At, IsAt, MediumState, told_in}
 use Rattle.nvm_model.specs.Piece.{block_at}
 use Rattle.nvm_model.proofs.MediaLemmas.{length_joined}
-use Rattle.turns.specs.Run.{AllCopied, CopiesAll, Copy, CopyEnd, gets_of, puts_of}
-use Rattle.turns.specs.Run.CopyEnd.{Copied, NotRead, NotWritten}
-use Rattle.turns.specs.Told.{Tell}
+use Rattle.nvm_model.specs.Run.{AllCopied, CopiesAll, Copy, CopyEnd, gets_of, puts_of}
+use Rattle.nvm_model.specs.Run.CopyEnd.{Copied, NotRead, NotWritten}
+use Rattle.nvm_model.specs.Told.{Tell}
 use Rattle.turns.proofs.MediaLaws.{the_copy}
 use Rattle.turns.proofs.PieceLaws.{Blocks, Flat, calls_told, place_is}
 

@@ -10,12 +10,12 @@ use Rattle.nvm_model.specs.ScriptText.{IsScript}
 use Rattle.nvm_model.specs.Shelf.{joined}
 use Rattle.nvm_model.specs.Turn.{Begins, events_in}
 use Rattle.nvm_model.specs.World.{Lane, World}
-use Rattle.turns.specs.declared.run.RunPhase.{RunPhase}
-use Rattle.turns.specs.declared.run.RunPhase.TheVariants.{Over}
-use Rattle.turns.specs.declared.run.Side.{Side}
-use Rattle.turns.specs.declared.run.Side.TheVariants.{Source, Destination}
-use Rattle.turns.specs.Run.{IsStage, Snapshot, Stage, Task, among, by_side, lines_in, memory_at, memory_of}
-use Rattle.turns.specs.Told.{HasRun, Holds, IsUntouched, SidesHold, Tell, Tells, is_source}
+use Rattle.nvm_model.specs.declared.run.RunPhase.{RunPhase}
+use Rattle.nvm_model.specs.declared.run.RunPhase.TheVariants.{Over}
+use Rattle.nvm_model.specs.declared.run.Side.{Side}
+use Rattle.nvm_model.specs.declared.run.Side.TheVariants.{Source, Destination}
+use Rattle.nvm_model.specs.Run.{IsStage, Snapshot, Stage, Task, among, by_side, lines_in, memory_at, memory_of}
+use Rattle.nvm_model.specs.Told.{HasRun, Holds, IsUntouched, SidesHold, Tell, Tells, is_source}
 use Rattle.turns.proofs.PieceLaws.{Blocks}
 use Rattle.turns.proofs.ToldLaws.{Behind, Ended, GivenUp, Moved, Stands, StandsAt, Tried, Untried, Way, events_behind, moving, run_stands, side_of}
 use Rattle.turns.proofs.WholeLaws.{Whole, in_turns, is_given_up, is_legal, is_whole, migrates, moved_point, reaches_mid, whole_are_lines, whole_gives_up, whole_lines, whole_resumes}

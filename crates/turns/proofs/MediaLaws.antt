@@ -12,12 +12,12 @@ use Rattle.nvm_model.specs.History.{faults_shown, is_faulted}
 use Rattle.nvm_model.specs.Medium.{At, Call, HasSize, HaveSize, IsAt, MediumState, all_at, failures_in, faults_in}
 use Rattle.nvm_model.proofs.ChainLemmas.{chain_keeps, chain_more, chain_one}
 use Rattle.nvm_model.proofs.MediaLemmas.{call_size, counts_rise, failures_of}
-use Rattle.turns.specs.Run.{AllCopied, CopiesUpTo, Copy, CopyEnd, Here, IsPiece, IsStage, IsTurn, PieceCalled, Snapshot, Stage, Task, TurnDone, all_blocks, by_side, calls_at, gets_of, here, lines_in, lines_of, media_at, opposite, part_of, piece_line, puts_of, turn_calls, turn_lines}
-use Rattle.turns.specs.Run.CopyEnd.{Copied, NotRead, NotWritten}
-use Rattle.turns.specs.declared.run.Side.{Side}
-use Rattle.turns.specs.declared.run.Side.TheVariants.{Source, Destination}
-use Rattle.turns.specs.Run.Stage.{Title, Turn, Begin, Resume, GiveUp, End}
-use Rattle.turns.specs.Told.{faults_of}
+use Rattle.nvm_model.specs.Run.{AllCopied, CopiesUpTo, Copy, CopyEnd, Here, IsPiece, IsStage, IsTurn, PieceCalled, Snapshot, Stage, Task, TurnDone, all_blocks, by_side, calls_at, gets_of, here, lines_in, lines_of, media_at, opposite, part_of, piece_line, puts_of, turn_calls, turn_lines}
+use Rattle.nvm_model.specs.Run.CopyEnd.{Copied, NotRead, NotWritten}
+use Rattle.nvm_model.specs.declared.run.Side.{Side}
+use Rattle.nvm_model.specs.declared.run.Side.TheVariants.{Source, Destination}
+use Rattle.nvm_model.specs.Run.Stage.{Title, Turn, Begin, Resume, GiveUp, End}
+use Rattle.nvm_model.specs.Told.{faults_of}
 use Rattle.turns.proofs.CalmLaws.{faults_more, plans_calm, posts_calm}
 use Rattle.turns.proofs.RunLaws.{stage_task}
 

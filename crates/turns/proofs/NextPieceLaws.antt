@@ -11,7 +11,7 @@ use Rattle.nvm_model.specs.Turn.{left_in, pick_at, with_some, word_at}
 use Rattle.nvm_model.specs.World.{Lane, new_lane}
 use Rattle.nvm_model.proofs.ChainLemmas.{chain_keeps}
 use Rattle.turns.specs.Frame.{AreSameQueues, IsSameQueue}
-use Rattle.turns.specs.Run.{Here, IsPiece, NoneLeft, PieceCalled, Task}
+use Rattle.nvm_model.specs.Run.{Here, IsPiece, NoneLeft, PieceCalled, Task}
 use Rattle.turns.proofs.FrameLemmas.{same_queues, same_queues_more, set_same_queues}
 
 -- The pieces of a turn: whose is next, and what they leave.

@@ -9,7 +9,7 @@ use Rattle.nvm_model.specs.ScriptText.{IsScript}
 use Rattle.nvm_model.specs.Turn.{Begins, Turns, events_in, pieces_in}
 use Rattle.nvm_model.specs.World.{World, start_world, window_pages}
 use Rattle.turns.specs.Frame.{AreAtRest, AreServed}
-use Rattle.turns.specs.Run.{Snapshot}
+use Rattle.nvm_model.specs.Run.{Snapshot}
 use Rattle.turns.proofs.FrameLemmas.{events_in_more, pieces_in_more, turns_more}
 use Rattle.turns.proofs.PieceLaws.{Blocks}
 use Rattle.turns.proofs.PlanLemmas.{calm_more}

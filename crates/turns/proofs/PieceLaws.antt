@@ -18,8 +18,8 @@ use Rattle.nvm_model.specs.Turn.{InOrder, IsKind, SerialTurn, piece_number, piec
 use Rattle.nvm_model.specs.Turn.Kind.{Piece}
 use Rattle.nvm_model.specs.World.{Lane, World, lane_of}
 use Rattle.nvm_model.proofs.MediaLemmas.{flat_calls, piece_told}
-use Rattle.turns.specs.Run.{Here, IsPiece, IsTurn, PieceCalled, TurnDone, among, part_of, piece_line, turn_lines}
-use Rattle.turns.specs.Told.{Tell, serial}
+use Rattle.nvm_model.specs.Run.{Here, IsPiece, IsTurn, PieceCalled, TurnDone, among, part_of, piece_line, turn_lines}
+use Rattle.nvm_model.specs.Told.{Tell, serial}
 use Rattle.turns.proofs.CalmLaws.{plans_calm, posts_calm}
 use Rattle.turns.proofs.FrameLemmas.{pieces_in_more}
 use Rattle.turns.proofs.MediaLaws.{sizes_stay}

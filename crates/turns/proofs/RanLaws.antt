@@ -2,10 +2,10 @@ use Rattle.std.proofs.Common.{◌≡◌, Bool, false, refl, subst}
 use Rattle.std.specs.List.{flat_map}
 use Rattle.nvm_model.specs.declared.trace.Step.{Step}
 use Rattle.nvm_model.specs.Medium.{MediumState}
-use Rattle.turns.specs.declared.run.RunPhase.TheVariants.{Over}
-use Rattle.turns.specs.declared.run.Side.TheVariants.{Source, Destination}
+use Rattle.nvm_model.specs.declared.run.RunPhase.TheVariants.{Over}
+use Rattle.nvm_model.specs.declared.run.Side.TheVariants.{Source, Destination}
 use Rattle.turns.specs.Ran.{Ran}
-use Rattle.turns.specs.Run.{Snapshot, Went, calls_at, media_at}
+use Rattle.nvm_model.specs.Run.{Snapshot, Went, calls_at, media_at}
 use Rattle.turns.proofs.EndLaws.{run_ended}
 use Rattle.turns.proofs.MediaLaws.{run_media, run_rises, sizes_stay}
 use Rattle.turns.proofs.StopLaws.{run_stopped}

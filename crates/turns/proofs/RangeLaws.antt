@@ -35,7 +35,7 @@ use Rattle.nvm_model.specs.Text.{IsStatus, IsOutcome, IsDigest, DigestMayStand, 
 use Rattle.nvm_model.specs.Turn.{Turns, events_in}
 use Rattle.nvm_model.specs.World.{Lane, World, lane_of, new_lane, set_of, acts_of}
 use Rattle.turns.specs.Range.{IsWorkOf, IsCommandOf, IsEntry, IsCompletion, IsInRange, AreInRange}
-use Rattle.turns.specs.Run.{start_lanes}
+use Rattle.nvm_model.specs.Run.{start_lanes}
 use Rattle.turns.proofs.DigestLaws.{is_digest}
 use Rattle.turns.proofs.FrameLemmas.{turns_steps}
 use Rattle.turns.proofs.ScriptLaws.{acts_few, acts_fit, set_fits}

@@ -11,8 +11,8 @@ use Rattle.nvm_model.specs.Chain.{Chain}
 use Rattle.nvm_model.specs.Medium.{MediumState}
 use Rattle.nvm_model.specs.Text.{line_text, text_of}
 use Rattle.nvm_model.proofs.ChainLemmas.{chain_keeps, chain_more, chain_one}
-use Rattle.turns.specs.Run.{IsStage, IsWritten, Snapshot, Stage, Task, Went, lines_in, lines_of}
-use Rattle.turns.specs.Run.Stage.{Title, Turn, Begin, Resume, GiveUp, End}
+use Rattle.nvm_model.specs.Run.{IsStage, IsWritten, Snapshot, Stage, Task, Went, lines_in, lines_of}
+use Rattle.nvm_model.specs.Run.Stage.{Title, Turn, Begin, Resume, GiveUp, End}
 
 -- A run goes on, stage after stage.
 

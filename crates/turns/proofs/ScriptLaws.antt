@@ -14,7 +14,7 @@ use Rattle.nvm_model.specs.ScriptText.{IsAct, IsActLine, IsHead, IsSet}
 use Rattle.nvm_model.specs.Turn.{Turns, pieces_in}
 use Rattle.nvm_model.specs.World.{Lane, World, acts_of, new_lane, set_of, window_pages}
 use Rattle.turns.specs.Frame.{AreAtRest, AreServed}
-use Rattle.turns.specs.Run.{start_lanes}
+use Rattle.nvm_model.specs.Run.{start_lanes}
 use Rattle.turns.proofs.FrameLemmas.{frame_rest, turn_frame}
 
 -- What a script says of its lanes.

@@ -19,12 +19,12 @@ use Rattle.nvm_model.specs.Stop.{EndOneTurn, IsPart}
 use Rattle.nvm_model.specs.Text.{text_of}
 use Rattle.nvm_model.specs.Turn.{Turns, events_in, pieces_in}
 use Rattle.nvm_model.specs.World.{World, start_world}
-use Rattle.turns.specs.declared.run.RunPhase.TheVariants.{New, Running, Suspended}
-use Rattle.turns.specs.declared.run.Side.{Side}
-use Rattle.turns.specs.declared.run.Side.TheVariants.{Source, Destination}
-use Rattle.turns.specs.Run.{IsStage, IsTitle, IsWritten, Snapshot, Stage, TakesTurn, TurnDone, Went, lines_in, lines_of, turn_lines}
-use Rattle.turns.specs.Run.Stage.{Title, Turn, Begin, Resume, GiveUp, End}
-use Rattle.turns.specs.Told.{HasStopped, Holds, IsUntouched, SideHolds, Tells, faults_of, is_migrate}
+use Rattle.nvm_model.specs.declared.run.RunPhase.TheVariants.{New, Running, Suspended}
+use Rattle.nvm_model.specs.declared.run.Side.{Side}
+use Rattle.nvm_model.specs.declared.run.Side.TheVariants.{Source, Destination}
+use Rattle.nvm_model.specs.Run.{IsStage, IsTitle, IsWritten, Snapshot, Stage, TakesTurn, TurnDone, Went, lines_in, lines_of, turn_lines}
+use Rattle.nvm_model.specs.Run.Stage.{Title, Turn, Begin, Resume, GiveUp, End}
+use Rattle.nvm_model.specs.Told.{HasStopped, Holds, IsUntouched, SideHolds, Tells, faults_of, is_migrate}
 use Rattle.turns.proofs.CalmLaws.{faults_more}
 use Rattle.turns.proofs.EndLaws.{ending, holds_behind, holds_here, is_untouched}
 use Rattle.turns.proofs.FrameLemmas.{steps_are_events, steps_more, turn_steps, turns_steps}

@@ -12,13 +12,13 @@ use Rattle.nvm_model.specs.Medium.{IsAt, MediumState}
 use Rattle.nvm_model.specs.ScriptText.{IsTurn as IsTurnNumber}
 use Rattle.nvm_model.specs.Turn.{Begins, SerialTurn, Turns, events_in, pieces_in}
 use Rattle.nvm_model.specs.World.{Lane, World, start_world, window_pages}
-use Rattle.turns.specs.declared.run.RunPhase.{RunPhase}
-use Rattle.turns.specs.declared.run.RunPhase.TheVariants.{New, Running, Suspended, Over}
-use Rattle.turns.specs.declared.run.Side.{Side}
-use Rattle.turns.specs.declared.run.Side.TheVariants.{Source, Destination}
-use Rattle.turns.specs.Run.{AreComplete, CopiesAll, Copy, IsBegin, IsDue, IsEnd, IsGiveUp, IsResume, IsStage, IsTitle, IsTurn, SinkState, Snapshot, Stage, TakesTurn, Task, TurnDone, among, gets_of, here, lines_in, lines_of, memory_of, opposite, puts_of, start_lanes, turn_lines}
-use Rattle.turns.specs.Run.Stage.{Title, Turn, Begin, Resume, GiveUp, End}
-use Rattle.turns.specs.Told.{Tell, Tells, serial}
+use Rattle.nvm_model.specs.declared.run.RunPhase.{RunPhase}
+use Rattle.nvm_model.specs.declared.run.RunPhase.TheVariants.{New, Running, Suspended, Over}
+use Rattle.nvm_model.specs.declared.run.Side.{Side}
+use Rattle.nvm_model.specs.declared.run.Side.TheVariants.{Source, Destination}
+use Rattle.nvm_model.specs.Run.{AreComplete, CopiesAll, Copy, IsBegin, IsDue, IsEnd, IsGiveUp, IsResume, IsStage, IsTitle, IsTurn, SinkState, Snapshot, Stage, TakesTurn, Task, TurnDone, among, gets_of, here, lines_in, lines_of, memory_of, opposite, puts_of, start_lanes, turn_lines}
+use Rattle.nvm_model.specs.Run.Stage.{Title, Turn, Begin, Resume, GiveUp, End}
+use Rattle.nvm_model.specs.Told.{Tell, Tells, serial}
 use Rattle.turns.proofs.CopyLaws.{gets_told, puts_told}
 use Rattle.turns.proofs.FrameLemmas.{events_in_more, pieces_in_more, turns_more}
 use Rattle.turns.proofs.PieceLaws.{Blocks, turn_told, world_of}

@@ -6,10 +6,10 @@ use Rattle.nvm_model.specs.declared.trace.Step.{Step}
 use Rattle.nvm_model.specs.Chain.{Chain}
 use Rattle.nvm_model.specs.History.{faults_shown}
 use Rattle.nvm_model.specs.Medium.{HaveSize, IsAt, MediumState}
-use Rattle.turns.specs.declared.run.Side.{Side}
-use Rattle.turns.specs.declared.run.Side.TheVariants.{Source, Destination}
-use Rattle.turns.specs.Run.{IsStage, IsWritten, Snapshot, Stage, calls_at, lines_in, media_at}
-use Rattle.turns.specs.Told.{HasRun, HasStopped, Tells, faults_of}
+use Rattle.nvm_model.specs.declared.run.Side.{Side}
+use Rattle.nvm_model.specs.declared.run.Side.TheVariants.{Source, Destination}
+use Rattle.nvm_model.specs.Run.{IsStage, IsWritten, Snapshot, Stage, calls_at, lines_in, media_at}
+use Rattle.nvm_model.specs.Told.{HasRun, HasStopped, Tells, faults_of}
 
 -- What a run did, from its start to its end or to where the sink failed: one list of stages, to which all of this belongs.
 pub record Ran {M I : Type 0} (state : M → MediumState I) (moves : I → Step → Bool → I → Type 0) (old : Snapshot M) (failed : Bool) (new : Snapshot M) : Type 0 where

@@ -11,10 +11,6 @@ ghost use Rattle.nvm_model.specs.Turn.{Turns, events_in};
 ghost use Rattle.nvm_model.specs.World.{World};
 ghost use Rattle.turns.specs.Frame.{AreAtRest, AreServed, EndsInTurns};
 
-mod run;
-
-pub use run::{RunPhase, Side};
-
 /// A law: the events of turns are steps of the world, one after another.
 pub fn turns_are_steps()
     ensures { (s : Script) (n : ℕ) (w : World) (turns : List (List Line)) (v : World) → Turns s n w turns v → Steps s w (events_in turns) v }

@@ -37,12 +37,7 @@ impl<M: Medium> Place<M> {
     }
 
     /// Copies a block through a buffer.
-    fn copy_block(
-        &mut self,
-        b: u32,
-        block: &mut [u8; 512],
-        to: &mut Place<M>,
-    ) -> Result<(), Failed>
+    fn copy_block(&mut self, b: u32, block: &mut [u8; 512], to: &mut Place<M>) -> Result<(), Failed>
         requires alike { AreAlike (both self.old to.old) }
         requires there { b < block_count self.old.namespace }
         ensures copied { CopiesTo M.state M.moves (b ∷ []) (both self.old to.old) (is_err result) (both self.new to.new) }

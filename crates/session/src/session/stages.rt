@@ -1,9 +1,9 @@
 // The stages of a run. Each does its effect, and then its lines go out.
 ghost use Rattle.std.specs.Prelude.{◌≡◌, ◌<◌, true, false, is_err, IfOk, None};
-ghost use Rattle.turns.specs.declared.run.Side.TheVariants.{Source};
+ghost use Rattle.nvm_model.specs.declared.run.Side.TheVariants.{Source};
 ghost use Rattle.session.specs.declared.session.Next.TheVariants.{Turn, End};
-ghost use Rattle.turns.specs.declared.run.RunPhase.TheVariants.{New, Running, Suspended, Over};
-ghost use Rattle.turns.specs.Run.{all_blocks, opposite};
+ghost use Rattle.nvm_model.specs.declared.run.RunPhase.TheVariants.{New, Running, Suspended, Over};
+ghost use Rattle.nvm_model.specs.Run.{all_blocks, opposite};
 ghost use Rattle.session.specs.declared.ending.Ending.TheVariants.{Done, GaveUp};
 ghost use Rattle.session.specs.Place.{IsPlaceOf, IsReady, PlaceState, total_work};
 ghost use Rattle.session.specs.Copies.{CopiesTo, both};
@@ -15,8 +15,7 @@ use crate::place::Place;
 use crate::turn::do_turn;
 use mig_base::{Failed, Sink};
 use mig_medium::Medium;
-use nvm_model::Line;
-use turns::{RunPhase, Side};
+use nvm_model::{Line, RunPhase, Side};
 
 impl Session {
     /// Begins: writes the first two lines.
@@ -24,11 +23,7 @@ impl Session {
     /// # Errors
     ///
     /// `Failed` only where the sink's count of faults rose, here and below. The stage was done, and its text was cut.
-    pub fn begin<M: Medium, K: Sink>(
-        &mut self,
-        at: &Place<M>,
-        out: &mut K,
-    ) -> Result<(), Failed>
+    pub fn begin<M: Medium, K: Sink>(&mut self, at: &Place<M>, out: &mut K) -> Result<(), Failed>
         requires { self.old.phase ≡ New }
         ensures went { (other : PlaceState M) → Goes M.state M.moves
             (sides self.old at.now other (sink (K.bytes out.old) (K.faults out.old))) (is_err result)
@@ -40,11 +35,7 @@ impl Session {
     }
 
     /// Does a turn and writes its lines.
-    pub fn turn<M: Medium, K: Sink>(
-        &mut self,
-        at: &mut Place<M>,
-        out: &mut K,
-    ) -> Result<(), Failed>
+    pub fn turn<M: Medium, K: Sink>(&mut self, at: &mut Place<M>, out: &mut K) -> Result<(), Failed>
         requires running { IsRunning self.old at.old }
         requires due { IsNext self.old Turn }
         ensures went { (other : PlaceState M) → Goes M.state M.moves
@@ -88,11 +79,7 @@ impl Session {
     }
 
     /// Suspends the guests.
-    fn suspend<M: Medium, K: Sink>(
-        &mut self,
-        at: &Place<M>,
-        out: &mut K,
-    ) -> Result<(), Failed>
+    fn suspend<M: Medium, K: Sink>(&mut self, at: &Place<M>, out: &mut K) -> Result<(), Failed>
         requires running { IsRunning self.old at.now }
         requires due { IsMoveDue self.old }
         ensures went { (other : PlaceState M) → Goes M.state M.moves

@@ -1,5 +1,5 @@
 use Rattle.std.proofs.Common.{◌≡◌, ◌+◌, sum, vec_len, vec_capacity}
-use Rattle.turns.specs.Run.{Here}
+use Rattle.nvm_model.specs.Run.{Here}
 use Rattle.session.specs.LaneParts.{Leads}
 use Rattle.session.specs.Phases.{DoesPieces, HasPlan}
 use Rattle.session.specs.Place.{StandsOn, machine}

@@ -24,7 +24,6 @@ returns-clause-went g c =
     rw (c.other_side-self-inside.ensures, ← c.self.view_is) λ old_at old_to copies.
     goes_resume (ap (λ (s : SessionState). s.phase) c.self.view_is ∙ c.requires.was) ready place copies c.hand_over.ensures c.page_count.result c.page_count.ensures c.in_ok-write.ensures
 
-
 pub returns-in_err-write-clause-running : goal.returns-in_err-write-clause-running
 returns-in_err-write-clause-running g c =
     let ready = subst (λ (s : SessionState). IsReady s.script (machine_of s c.args.at.now)) (sym c.self.view_is) c.requires.ready in

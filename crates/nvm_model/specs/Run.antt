@@ -20,10 +20,10 @@ use Rattle.nvm_model.specs.Shelf.{digest_bytes}
 use Rattle.nvm_model.specs.Text.{text_of}
 use Rattle.nvm_model.specs.Trace.{IsPieceDone, piece_calls}
 use Rattle.nvm_model.specs.Turn.{InLanes, Plans, PostsAll, left_in, next_lane}
-use Rattle.turns.specs.declared.run.RunPhase.{RunPhase}
-use Rattle.turns.specs.declared.run.RunPhase.TheVariants.{New, Running, Suspended, Over}
-use Rattle.turns.specs.declared.run.Side.{Side}
-use Rattle.turns.specs.declared.run.Side.TheVariants.{Source, Destination}
+use Rattle.nvm_model.specs.declared.run.RunPhase.{RunPhase}
+use Rattle.nvm_model.specs.declared.run.RunPhase.TheVariants.{New, Running, Suspended, Over}
+use Rattle.nvm_model.specs.declared.run.Side.{Side}
+use Rattle.nvm_model.specs.declared.run.Side.TheVariants.{Source, Destination}
 use Rattle.nvm_model.specs.World.{Lane, World, lane_of, start_world, window_pages}
 
 -- A run: guests over the media of one side, turn after turn, and their move to the other side. It is a list of stages from

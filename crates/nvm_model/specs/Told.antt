@@ -14,10 +14,10 @@ use Rattle.nvm_model.specs.Stop.{EndOneTurn, IsPart}
 use Rattle.nvm_model.specs.Text.{IsLine, text_of}
 use Rattle.nvm_model.specs.Turn.{RunsInTurns}
 use Rattle.nvm_model.specs.World.{World}
-use Rattle.turns.specs.declared.run.Side.{Side}
-use Rattle.turns.specs.declared.run.Side.TheVariants.{Source, Destination}
-use Rattle.turns.specs.Run.{Snapshot, Task, media_at, memory_at, memory_of, start_lanes, start_of}
-use Rattle.turns.specs.Run.Order.{Serial}
+use Rattle.nvm_model.specs.declared.run.Side.{Side}
+use Rattle.nvm_model.specs.declared.run.Side.TheVariants.{Source, Destination}
+use Rattle.nvm_model.specs.Run.{Snapshot, Task, media_at, memory_at, memory_of, start_lanes, start_of}
+use Rattle.nvm_model.specs.Run.Order.{Serial}
 
 -- What a run on one thread came to, where the media of both sides tell their blocks.
 
