@@ -23,7 +23,7 @@ use Rattle.session.specs.Opened.{IsNewPlace, Opens}
 use Rattle.session.specs.Place.{PlaceState, pages_of}
 use Rattle.session.specs.Sides.{Goes, HasEnded as SessionEnded, IsEnding, SessionState, StandsAs, at_side, by_side as stand_by, sides}
 use Rattle.engine.specs.declared.status.Status.{Status}
-use Rattle.engine.specs.declared.status.Status.TheVariants.{Done, Usage, BadScript, TooLong, OutOfMemory, HostSize, ReadFault, WriteFault, GaveUp}
+use Rattle.engine.specs.declared.status.Status.TheVariants.{Done, Usage, BadScript, TooLong, OutOfMemory, HostSize, ReadFault, WriteFault, GaveUp, Refused}
 use Rattle.engine.specs.Built.{IsTaken, Spells}
 use Rattle.engine.specs.Claims.{OnEnded, OnWriteFault, is_gave_up, is_write_fault}
 use Rattle.engine.specs.Headline.{AreLeft, HasGone, Hosts, IsRun, start}
@@ -119,6 +119,7 @@ on_ended : (status : Status) {claim : Type 0} → (is_write_fault status ≡ fal
 on_ended Done f = f refl
 on_ended GaveUp f = f refl
 on_ended Usage f = tt
+on_ended (Refused line why) f = tt
 on_ended (BadScript line why) f = tt
 on_ended TooLong f = tt
 on_ended OutOfMemory f = tt
@@ -131,6 +132,7 @@ on_write_fault WriteFault f = f refl
 on_write_fault Done f = tt
 on_write_fault GaveUp f = tt
 on_write_fault Usage f = tt
+on_write_fault (Refused line why) f = tt
 on_write_fault (BadScript line why) f = tt
 on_write_fault TooLong f = tt
 on_write_fault OutOfMemory f = tt
@@ -181,6 +183,8 @@ run_of {M} {I} {E} {state} {moves} {input} {s} {old} {new} {result = result} sta
     let lines = lines_in s stages in
     let asks = run_asks state moves (start s old) stages g.end refl refl refl g.ran.run in
     let none = λ (e : s.head.migrate ≡ None). not_tried g.end.tried g.end.task.script.head.migrate asks.asked (ap (λ (k : Task). k.script.head.migrate) asks.same ∙ e) in
+    let says = λ (is : is_write_fault status ≡ false). answered g.end.side status result (answer.failed ∙ is) none
+            (λ n turn e. asks.over (g.over (answer.failed ∙ is)) n turn (ap (λ (k : Task). k.script.head.migrate) asks.same ∙ e)) g.ending answer.gave_up in
     let source_sizes = g.ran.sizes Source s.head.shelf from.sizes in
     let destination_sizes = g.ran.sizes Destination s.head.shelf to.sizes in
     record {
@@ -200,6 +204,7 @@ run_of {M} {I} {E} {state} {moves} {input} {s} {old} {new} {result = result} sta
       };
       faults = record { never_fell = rw (g.left.from, g.left.to) g.ran.never_fell; causes = rw (g.left.from, g.left.to) g.ran.causes };
       unmoved = λ e. let stays = asks.stays (none e) in is_untouched (start s old) g.end refl stays.0 stays.1 stays.2;
+      over = on_ended status (λ is. record { over = g.over (answer.failed ∙ is); gave_up = says is });
       ended = on_ended status (λ is blocks others told to_told.
           let r = g.ran.ended (answer.failed ∙ is) s blocks (tells old taken from to blocks others told to_told) in
           record {
@@ -208,7 +213,7 @@ run_of {M} {I} {E} {state} {moves} {input} {s} {old} {new} {result = result} sta
             turns = r.turns;
             complete = r.complete;
             hosts = r.sides;
-            gave_up = r.gave_up ∙ answered g.end.side status result (answer.failed ∙ is) none (λ n turn e. asks.over (g.over (answer.failed ∙ is)) n turn (ap (λ (k : Task). k.script.head.migrate) asks.same ∙ e)) g.ending answer.gave_up;
+            gave_up = r.gave_up ∙ says is;
           });
       sink = on_write_fault status (λ is blocks others told to_told. g.ran.stopped (answer.failed ∙ is) s blocks (tells old taken from to blocks others told to_told));
     }

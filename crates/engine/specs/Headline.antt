@@ -1,4 +1,4 @@
-use Rattle.std.specs.Prelude.{◌≡◌, ℕ, Bool, false, List, ◌++◌, Option, Some, None, Result, IfOk, is_err, length}
+use Rattle.std.specs.Prelude.{◌≡◌, ℕ, Bool, false, ◌&&◌, List, ◌++◌, Option, Some, None, Result, IfOk, is_err, length}
 use Rattle.std.specs.List.{flat_map}
 use Rattle.mig_base.specs.Count.{NeverFall, RiseBy}
 use Rattle.nvm_model.specs.declared.line.Line.{Line}
@@ -17,7 +17,7 @@ use Rattle.nvm_model.specs.declared.run.RunPhase.TheVariants.{Over}
 use Rattle.nvm_model.specs.declared.run.Side.TheVariants.{Source, Destination}
 use Rattle.turns.specs.Ran.{Ran}
 use Rattle.nvm_model.specs.Run.{IsStage, IsWritten, SinkState, Snapshot, Stage, calls_at, lines_in, media_at, memory_at, start_of}
-use Rattle.nvm_model.specs.Told.{HasStopped, IsUntouched, SidesHold, serial}
+use Rattle.nvm_model.specs.Told.{HasStopped, IsUntouched, SidesHold, is_source, serial}
 use Rattle.session.specs.declared.ending.Ending.{Ending}
 use Rattle.session.specs.Place.{pages_of}
 use Rattle.session.specs.Sides.{IsEnding}
@@ -91,6 +91,12 @@ pub record HasEnded {M I : Type 0} (state : M → MediumState I) (s : Script) (b
   -- The answer says that the migration was given up exactly where the text does.
   pub gave_up : has_given_up lines ≡ is_gave_up status
 
+-- A run that came to its end, whatever the media tell.
+pub record IsOver {M : Type 0} (end : Snapshot M) (status : Status) : Type 0 where
+  pub over : end.phase ≡ Over
+  -- The answer says that the migration was given up exactly where one was begun and the guests are at the source.
+  pub gave_up : (end.tried && is_source end.side) ≡ is_gave_up status
+
 -- A run of the script that the input spelled, of which all of this is said: one list of stages.
 pub record IsRun {M I : Type 0} (state : M → MediumState I) (moves : I → Step → Bool → I → Type 0) (input : Option (List ℕ)) (old : Hosts M) (status : Status) (new : Hosts M) : Type 0 where
   pub script : Script
@@ -106,6 +112,7 @@ pub record IsRun {M I : Type 0} (state : M → MediumState I) (moves : I → Ste
   pub faults : HaveCauses (lines_in script stages) (faults_of state old) (faults_of state new)
   -- where no migration is asked for, the destination is as it was, with zeroed memory
   pub unmoved : script.head.migrate ≡ None → IsUntouched (start script old) end
+  pub over : OnEnded status (IsOver end status)
   pub ended : OnEnded status (IfTold state old (λ blocks. HasEnded state script blocks (lines_in script stages) end status))
   pub sink : OnWriteFault status (IfTold state old (λ blocks. HasStopped state script blocks (start script old) end))
 
