@@ -1,5 +1,5 @@
 // What a place has beside its media, made for a script.
-ghost use Rattle.std.specs.Prelude.{◌≡◌, IfOk};
+ghost use Rattle.std.specs.Prelude.{◌≡◌, IfOk, take};
 ghost use Rattle.nvm_model.specs.ScriptText.{IsHead};
 ghost use Rattle.controller.specs.declared.controller.Phase.TheVariants.{Running};
 ghost use Rattle.controller.specs.Pair.{IsMade};
