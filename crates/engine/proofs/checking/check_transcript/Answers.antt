@@ -1,4 +1,4 @@
-use Rattle.std.proofs.Common.{List, ℕ, sym, subst}
+use Rattle.std.proofs.Common.{List, ℕ, subst}
 use Rattle.engine.specs.Checked.{HasVerdict}
 use Rattle.std.specs.Prelude.{Some}
 use Rattle.engine.proofs.CheckLemmas.{told_checked, told_verdict}
