@@ -1,14 +1,14 @@
 -- The image of a state, and the state of an image.
-use Rattle.std.proofs.Common.{◌≡◌, ◌⊎◌, Err, ◌<◌, ◌≤◌, ◌+◌, ◌-◌, ◌*◌, ◌/◌, ◌==◌, ℕ, zero, suc, Bool, true, false, All, List, [], ◌∷◌, ◌++◌, append_assoc, cond, length, take, drop, slice_index, replicate, nat_lt, if◌then◌else◌, refl, sym, ap, ◌∙◌, subst, arith, add-one, add-zero, drop-drop, get_or-take, length-append, slice_index_or, slice_set, take-append-drop, take-take}
+use Rattle.std.proofs.Common.{◌≡◌, ◌⊎◌, Ok, Err, ◌<◌, ◌≤◌, ◌+◌, ◌-◌, ◌*◌, ◌/◌, ◌==◌, ℕ, zero, suc, Bool, true, false, All, List, [], ◌∷◌, ◌++◌, append_assoc, cond, length, take, drop, slice_index, replicate, nat_lt, if◌then◌else◌, refl, sym, ap, ◌∙◌, subst, arith, add-one, add-zero, drop-drop, get_or-take, length-append, slice_index_or, slice_set, take-append-drop, take-take}
 use Rattle.std.proofs.lemmas.Bool.{le-ltb, ne_eqb}
-use Rattle.std.proofs.lemmas.List.{append-nil, drop_at, length-drop, length-replicate, length-take-le, take_at, take_more}
+use Rattle.std.proofs.lemmas.List.{append-nil, drop_at, length-drop, length-replicate, length-take, length-take-le, take_at, take_more}
 use Rattle.ctl_state.specs.declared.bounds.Bounds.{Bounds}
 use Rattle.ctl_state.specs.declared.image.Image.{Image}
 use Rattle.ctl_state.specs.declared.image.PairState.{PairState}
 use Rattle.ctl_state.specs.Bounds.{Follows, IsWithin, bounds_after, only, pair_bounds, pair_of, pairs_in}
 use Rattle.ctl_state.specs.Image.{IsImage, IsPair, header, image_bytes, none, pair_bytes, pairs_bytes, pairs_of}
-use Rattle.ctl_state.specs.declared.parts.PartRefusal.TheVariants.{BadImage}
-use Rattle.ctl_state.specs.Parts.{Begins, Feeds, IsFirstBad, IsWhole, image_size, kept}
+use Rattle.ctl_state.specs.declared.parts.PartRefusal.TheVariants.{BadSequence, TooLong, BadImage}
+use Rattle.ctl_state.specs.Parts.{Begins, Feeds, IsFirstBad, ImageIsTaken, IsWhole, image_size, kept}
 use Rattle.ctl_state.proofs.FollowsLemmas.{drop-listed, follows_append, follows_at, follows_front, follows_rest, goes_on, listed}
 use Rattle.ctl_state.proofs.PairLemmas.{one, only_is, pair_follows, pair_of-pair_bytes, read_back}
 
@@ -277,3 +277,23 @@ bad_part lanes offset fed place old new part next fits short made bad =
     kept_front (suc n) fed old next =
         let same : suc n ≡ fed = omega (arith, next) in
         ap (λ m. take m old) same ∙ sym (ap (λ (b : Bool). cond b [] (take fed old)) (ne_eqb (suc n) 0 (λ e. absurd (omega (arith, e)))))
+
+-- A part of an image that follows is taken.
+pub image_taken : ImageIsTaken
+image_taken lanes offset image part (Ok x) old new is of_lanes follows all fed = (refl, fed.1)
+image_taken lanes offset image part (Err BadSequence) old new is of_lanes follows all fed = absurd (fed.0 follows)
+image_taken lanes offset image part (Err TooLong) old new is of_lanes follows all fed =
+    let fed_size : length (take (offset + length part) (image_bytes image)) ≡ offset + length part = ap length all ∙ length-append (kept offset old.bytes) part ∙ ap (λ n. n + length part) follows in
+    let most = length-take (offset + length part) (image_bytes image) in
+    let size = length-image_bytes lanes image is in
+    let long = fed.1 in
+    absurd (omega (arith, fed_size, most, size, long, of_lanes))
+image_taken lanes offset image part (Err (BadImage place)) old new is of_lanes follows all fed =
+    let w : List ℕ = kept offset old.bytes ++ part in
+    let bad = fed.2 in
+    let there = bad.there in
+    let long : length (take (place + 1) w) ≡ place + 1 = length-take-le (place + 1) w (omega arith) in
+    let fed_size : length w ≡ offset + length part = length-append (kept offset old.bytes) part ∙ ap (λ n. n + length part) follows in
+    let front : take (length (take (place + 1) w)) (image_bytes image) ≡ take (place + 1) w
+    = ap (λ n. take n (image_bytes image)) long ∙ sym (take-take (place + 1) (offset + length part) (image_bytes image) (omega (arith, fed_size, there))) ∙ ap (take (place + 1)) all in
+    absurd (bad.no_more (record { image = image; is = subst (λ n. IsImage n image) (sym of_lanes) is; front = front }))

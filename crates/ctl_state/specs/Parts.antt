@@ -44,3 +44,8 @@ Feeds offset part (Err (BadImage place)) old new =
 -- the bytes of a state of that many pairs
 abbrev pub IsWhole : ℕ → List ℕ → Image → Type 0
 IsWhole lanes bytes image = IsImage lanes image × (image_bytes image ≡ bytes)
+
+-- A part of a state's image that follows on the parts of it that were fed, or begins anew, is taken.
+abbrev pub ImageIsTaken : Type 0
+ImageIsTaken = (lanes offset : ℕ) (image : Image) (part : List ℕ) (result : Result (Unit {0}) PartRefusal) (old new : PartsState) → IsImage lanes image → old.lanes ≡ lanes →
+    length (kept offset old.bytes) ≡ offset → take (offset + length part) (image_bytes image) ≡ kept offset old.bytes ++ part → Feeds offset part result old new → (result ≡ Ok tt) × (new ≡ record old { bytes = kept offset old.bytes ++ part })

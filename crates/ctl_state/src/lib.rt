@@ -12,7 +12,7 @@ mod parts;
 
 pub use image::{Image, PairState};
 pub use nvm_ring::RingState;
-pub use parts::{PartRefusal, Parts};
+pub use parts::{PartRefusal, Parts, image_is_taken};
 
 #[cfg(test)]
 mod tests;

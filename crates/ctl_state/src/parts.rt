@@ -2,7 +2,7 @@ ghost use Rattle.std.specs.Prelude.{◌≡◌, ◌+◌, ◌-◌, ◌≤◌, ◌+
 ghost use Rattle.ctl_state.specs.declared.image.Image.{Image};
 ghost use Rattle.ctl_state.specs.Bounds.{pairs_in};
 ghost use Rattle.ctl_state.specs.Image.{none};
-ghost use Rattle.ctl_state.specs.Parts.{Feeds, IsWhole, image_size};
+ghost use Rattle.ctl_state.specs.Parts.{Feeds, ImageIsTaken, IsWhole, image_size};
 
 use crate::bounds::first_bad;
 use crate::image::{Image, PairState};
@@ -104,6 +104,12 @@ impl Parts {
         })
     }
 }
+
+/// A law: a part of a state's image that follows on the parts of it that were fed, or begins anew, is taken. So however an
+/// image is cut, it is fed to its end, and is whole.
+pub fn image_is_taken()
+    ensures { ImageIsTaken }
+{}
 
 /// Writes a part from that byte on. The other bytes stay.
 fn put(bytes: &mut [u8; 264], from: usize, part: &[u8])
