@@ -184,7 +184,7 @@ run_of {M} {I} {E} {state} {moves} {input} {s} {old} {new} {result = result} sta
     let asks = run_asks state moves (start s old) stages g.end refl refl refl g.ran.run in
     let none = λ (e : s.head.migrate ≡ None). not_tried g.end.tried g.end.task.script.head.migrate asks.asked (ap (λ (k : Task). k.script.head.migrate) asks.same ∙ e) in
     let says = λ (is : is_write_fault status ≡ false). answered g.end.side status result (answer.failed ∙ is) none
-            (λ n turn e. asks.over (g.over (answer.failed ∙ is)) n turn (ap (λ (k : Task). k.script.head.migrate) asks.same ∙ e)) g.ending answer.gave_up in
+    (λ n turn e. asks.over (g.over (answer.failed ∙ is)) n turn (ap (λ (k : Task). k.script.head.migrate) asks.same ∙ e)) g.ending answer.gave_up in
     let source_sizes = g.ran.sizes Source s.head.shelf from.sizes in
     let destination_sizes = g.ran.sizes Destination s.head.shelf to.sizes in
     record {

@@ -78,7 +78,8 @@ fn status_of(verdict: Verdict) -> Status
 }
 
 fn write_verdict<K: Sink>(verdict: Verdict, output: &mut K) -> Result<(), Failed>
-    ensures { Writes (verdict_text verdict) (K.bytes output.old) (K.bytes output.new) (K.faults output.old) (K.faults output.new) result }
+    ensures { Writes (verdict_text verdict) (K.bytes output.old) (K.bytes output.new)
+        (K.faults output.old) (K.faults output.new) result }
 {
     let mut line = LineBuf::new();
     push_verdict(verdict, &mut line);

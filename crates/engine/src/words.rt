@@ -1,5 +1,6 @@
 // The words of the command line.
-ghost use Rattle.std.specs.Prelude.{◌≡◌, ◌≢◌, ◌*◌, ◌^◌, ◌<◌, ◌≤◌, ℕ, [], true, false, map, length, slice_index_or, IfSome, IfNone, decimal, string_bytes};
+ghost use Rattle.std.specs.Prelude.{◌≡◌, ◌≢◌, ◌*◌, ◌^◌, ◌<◌, ◌≤◌, ℕ, [], true, false, map, length, slice_index_or};
+ghost use Rattle.std.specs.Prelude.{IfSome, IfNone, decimal, string_bytes};
 ghost use Rattle.engine.specs.Words.{IsCheck, IsRunSerial, IsShow, IsNoForm, HasForm, AreSizes};
 
 use itoa::Buffer;

@@ -1,6 +1,6 @@
-//! One controller and the guests of its queue pairs over two sides, each a host's guest memory and its namespace: a turn is
-//! a list of events, which are then written as lines. A run's lines are a whole transcript, its events a legal history
-//! that ends complete, and the blocks, the memory and the counts of faults are those of the world that it reaches.
+//! A run by stages over two places, each a host's media, its guests' memory and its controller. For the layer above: each
+//! call says which stages the run went on by, whatever run it stood for, and a run of a script goes on to its end, or to
+//! where the sink failed.
 #![tactic(auto)]
 
 mod ending;

@@ -19,7 +19,8 @@ mod stages;
 /// The most pieces that a command has.
 const MOST_PIECES: usize = 64;
 
-/// What goes where the guests go: the script, the guests of its lanes, the order of pieces, and room for a turn and for text.
+/// What goes where the guests go: the script, the guests of its lanes, the order of pieces, and room for a turn and for
+/// text.
 #[derive(Drop)]
 pub struct Session {
     script: Script,
@@ -43,7 +44,14 @@ impl Model for Session {
 
     ghost Value = { SessionState };
 
-    ghost view = { λ s. record { script = s.script; runs = s.runs.items; order = s.order; ahead = s.ahead; phase = s.phase; side = s.side } };
+    ghost view = { λ s. record {
+      script = s.script;
+      runs = s.runs.items;
+      order = s.order;
+      ahead = s.ahead;
+      phase = s.phase;
+      side = s.side;
+    } };
 
     ghost invariant = { λ s. HasRoom s.script s.plan s.events × AreRunsOf s.script s.runs.items };
 }

@@ -70,7 +70,8 @@ impl Text {
 
     /// Adds a line to the text that waits, which goes out first where the line has no room.
     fn push<K: Sink>(&mut self, line: &Line, out: &mut K) -> Result<(), Failed>
-        ensures pushed { OnOk result (Waits (self.old.items ++ line_text line.now) (K.bytes out.old) self.new.items (K.bytes out.new)) }
+        ensures pushed { OnOk result (Waits (self.old.items ++ line_text line.now) (K.bytes out.old)
+            self.new.items (K.bytes out.new)) }
         ensures cut { OnErr result (IsCut self.old.items (K.bytes out.old) (K.bytes out.new)) }
         ensures cause { HasCause (K.faults out.old) (K.faults out.new) result }
     {

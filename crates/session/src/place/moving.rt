@@ -27,7 +27,8 @@ impl<M: Medium> Place<M> {
     /// `Failed` where a call failed.
     pub(crate) fn copy_blocks(&mut self, to: &mut Place<M>) -> Result<(), Failed>
         requires { AreAlike (both self.old to.old) }
-        ensures copied { CopiesTo M.state M.moves (range_with_len 0 (block_count self.old.namespace)) (both self.old to.old) (is_err result) (both self.new to.new) }
+        ensures copied { CopiesTo M.state M.moves (range_with_len 0 (block_count self.old.namespace))
+            (both self.old to.old) (is_err result) (both self.new to.new) }
     {
         let mut block = [0u8; 512];
         for b in 0..self.namespace.len() {
@@ -40,7 +41,8 @@ impl<M: Medium> Place<M> {
     fn copy_block(&mut self, b: u32, block: &mut [u8; 512], to: &mut Place<M>) -> Result<(), Failed>
         requires alike { AreAlike (both self.old to.old) }
         requires there { b < block_count self.old.namespace }
-        ensures copied { CopiesTo M.state M.moves (b ∷ []) (both self.old to.old) (is_err result) (both self.new to.new) }
+        ensures copied { CopiesTo M.state M.moves (b ∷ [])
+            (both self.old to.old) (is_err result) (both self.new to.new) }
     {
         self.namespace.copy_out(b, block)?;
         to.namespace.put(b, block)

@@ -7,7 +7,8 @@ ghost use Rattle.nvm_model.specs.Run.{all_blocks, opposite};
 ghost use Rattle.session.specs.declared.ending.Ending.TheVariants.{Done, GaveUp};
 ghost use Rattle.session.specs.Place.{IsPlaceOf, IsReady, PlaceState, total_work};
 ghost use Rattle.session.specs.Copies.{CopiesTo, both};
-ghost use Rattle.session.specs.Sides.{Goes, HasBegun, IsMoveDue, IsMoved, by_side, less_one, IsNext, IsOnward, IsRunning, IsStop, machine_of, sides, sink};
+ghost use Rattle.session.specs.Sides.{Goes, HasBegun, IsMoveDue, IsMoved, IsNext, IsOnward, IsRunning, IsStop};
+ghost use Rattle.session.specs.Sides.{by_side, less_one, machine_of, sides, sink};
 
 use super::{Next, Session};
 use crate::Ending;
@@ -102,7 +103,8 @@ impl Session {
         requires was { self.old.phase ≡ Suspended }
         requires ready { IsReady self.old.script (machine_of self.old at.old) }
         requires place { IsPlaceOf self.old.script to.old }
-        ensures went { (old_at old_to : PlaceState M) → CopiesTo M.state M.moves (all_blocks self.old.script) (both old_at old_to) false (both at.old to.old)
+        ensures went { (old_at old_to : PlaceState M)
+            → CopiesTo M.state M.moves (all_blocks self.old.script) (both old_at old_to) false (both at.old to.old)
             → Goes M.state M.moves
             (sides self.old old_at old_to (sink (K.bytes out.old) (K.faults out.old))) (is_err result)
             (sides self.new to.new at.new (sink (K.bytes out.new) (K.faults out.new))) }
@@ -133,7 +135,8 @@ impl Session {
     ) -> Result<Ending, Failed>
         requires was { self.old.phase ≡ Suspended }
         requires ready { IsReady self.old.script (machine_of self.old at.now) }
-        ensures went { (old_at old_to : PlaceState M) → CopiesTo M.state M.moves (all_blocks self.old.script) (both old_at old_to) true (both at.now to.now)
+        ensures went { (old_at old_to : PlaceState M)
+            → CopiesTo M.state M.moves (all_blocks self.old.script) (both old_at old_to) true (both at.now to.now)
             → Goes M.state M.moves
             (sides self.old old_at old_to (sink (K.bytes out.old) (K.faults out.old))) (is_err result)
             (sides self.new at.now to.now (sink (K.bytes out.new) (K.faults out.new))) }
