@@ -184,10 +184,9 @@ fn pieces_fail(rt: HostRuntime) -> Result<(), Fail> {
 /// was written, nothing was done.
 #[test]
 fn the_output_fails(rt: HostRuntime) -> Result<(), Fail> {
-    let mut failing_write = 1;
-    for written in [0, 2, 14, 23, 24] {
+    for (write, written) in [(1, 0), (2, 2), (3, 14), (4, 23), (5, 24)] {
         let text = joined(rt.alloc(), &[TWO_LANES, PACE, OVERLAPPING, "end\n"])?;
-        let failing_writes = [failing_write];
+        let failing_writes = [write];
         let failing = Given {
             failing_writes: &failing_writes,
             ..TWO_SHELVES
@@ -200,7 +199,6 @@ fn the_output_fails(rt: HostRuntime) -> Result<(), Fail> {
         let byte = if written < 2 { 0 } else { 0x22 };
         assert!(&rt; block_of(&mut left.from, 0, 14) == Some([byte; 512]));
         assert!(&rt; block_of(&mut left.to, 0, 14) == Some([0; 512]));
-        failing_write += 1;
     }
     Ok(())
 }
