@@ -1,10 +1,8 @@
-use Rattle.std.proofs.Common.{◌≡◌, ℕ, inr, Bool, true, false, List, Option, Some, None, refl, sym, ap, ◌∙◌}
-use Rattle.nvm_model.specs.declared.script.Script.{Script}
+use Rattle.std.proofs.Common.{◌≡◌, ℕ, inr, Bool, true, false, List, Some, refl, sym, ap, ◌∙◌}
 use Rattle.nvm_model.specs.declared.trace.Step.{Step}
 use Rattle.nvm_model.specs.Chain.{Chain}
 use Rattle.nvm_model.specs.Medium.{MediumState}
 use Rattle.nvm_model.proofs.ChainLemmas.{chain_keeps}
-use Rattle.nvm_model.specs.declared.run.RunPhase.{RunPhase}
 use Rattle.nvm_model.specs.declared.run.RunPhase.TheVariants.{New, Running, Suspended, Over}
 use Rattle.nvm_model.specs.declared.run.Side.TheVariants.{Source}
 use Rattle.nvm_model.specs.Run.{IsStage, Snapshot, Stage, Task}
