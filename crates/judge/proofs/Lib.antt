@@ -4,5 +4,4 @@ pub mod VerdictLemmas
 pub mod VerdictLaws
 pub mod PieceLemmas
 pub mod LaneLemmas
-pub mod ScriptLemmas
 pub mod WorldLemmas

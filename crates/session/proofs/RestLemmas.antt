@@ -15,7 +15,7 @@ use Rattle.turns.proofs.PartLaws.{at_rest_from, first_of, later_of, served_from}
 use Rattle.session.specs.declared.lane_run.LaneRun.{LaneRun}
 use Rattle.session.specs.Lanes.{IsRunOf, Stands}
 use Rattle.session.specs.Place.{AreAllDone, AreQuiet, AreRunsOf, StandsFor, run_work, total_work}
-use Rattle.session.proofs.LaneLemmas.{set_fits}
+use Rattle.turns.proofs.ScriptLaws.{set_fits}
 
 -- What is known of the lanes for which runs stand between two turns.
 

@@ -15,7 +15,7 @@ use Rattle.controller.specs.Pair.{ControllerState, PairState, new_pair, outcomes
 use Rattle.session.specs.declared.lane_run.LaneRun.{LaneRun}
 use Rattle.session.specs.Lanes.{HaveWindows, IsNewRun, Stands, start_lanes, window_of}
 use Rattle.session.specs.Place.{AreQuiet, StandsFor}
-use Rattle.session.proofs.LaneLemmas.{set_fits}
+use Rattle.turns.proofs.ScriptLaws.{set_fits}
 
 -- A run at its start.
 

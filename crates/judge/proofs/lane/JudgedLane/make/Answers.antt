@@ -8,7 +8,7 @@ use Rattle.nvm_model.specs.Memory.{zero_page}
 use Rattle.nvm_model.specs.ScriptText.{IsAct, IsSet}
 use Rattle.nvm_model.specs.World.{acts_of, set_of}
 use Rattle.guest_ram.specs.Window.{WindowState}
-use Rattle.judge.proofs.ScriptLemmas.{lane_acts_few, lane_acts_fit, lane_set_fits}
+use Rattle.turns.proofs.ScriptLaws.{acts_few, acts_fit, set_fits}
 use Rattle.judge.proofs.lane.JudgedLane.make.Goals as goal
 
 pub returns-clause-sound : goal.returns-clause-sound
@@ -20,11 +20,11 @@ returns-clause-sound c =
     let acts_are : acts ≡ acts_of k s.acts = c.in_ok-acts.ensures ∙ ap (λ (n : ℕ). acts_of n s.acts) c.get.ensures.value in
     let made = c.in_ok-make.ensures.made in
     let pages : length c.in_ok-make.field-0.pages ≡ set.pages + 2 = ap (λ (w : WindowState). length w.pages) made ∙ length-replicate (set.pages + 2) zero_page in
-    let is_set : IsSet set = subst IsSet (sym c.set_of-set.ensures) (lane_set_fits s.head k c.requires.script.head (omega (arith, c.get.ensures.value, c.get.ensures.range)) c.requires.there) in
+    let is_set : IsSet set = subst IsSet (sym c.set_of-set.ensures) (set_fits s.head k c.requires.script.head (omega (arith, c.get.ensures.value, c.get.ensures.range)) c.requires.there) in
     let are_acts : All (IsAct set.pages) acts =
     subst (λ (n : LaneSet). All (IsAct n.pages) acts) (sym c.set_of-set.ensures)
-    (subst (λ (xs : List Act). All (IsAct (set_of s.head k).pages) xs) (sym acts_are) (All-from_recursion (IsAct (set_of s.head k).pages) (acts_of k s.acts) (lane_acts_fit s.head k s.acts c.requires.script.acts))) in
-    let few : length acts ≤ 65536 = subst (λ (xs : List Act). length xs ≤ 65536) (sym acts_are) (omega (arith, lane_acts_few k s.acts, c.requires.script.few)) in
+    (subst (λ (xs : List Act). All (IsAct (set_of s.head k).pages) xs) (sym acts_are) (All-from_recursion (IsAct (set_of s.head k).pages) (acts_of k s.acts) (acts_fit s.head k s.acts c.requires.script.acts))) in
+    let few : length acts ≤ 65536 = subst (λ (xs : List Act). length xs ≤ 65536) (sym acts_are) (omega (arith, acts_few k s.acts, c.requires.script.few)) in
     let submitted : length c.in_ok-with_capacity.field-0.items ≡ 0 = ap (λ (xs : List _). length xs) c.in_ok-with_capacity.ensures.items in
     let commands : length c.in_ok-with_capacity-2.field-0.items ≡ 0 = ap (λ (xs : List _). length xs) c.in_ok-with_capacity-2.ensures.items in
     let posted : length c.in_ok-with_capacity-4.field-0.items ≡ 0 = ap (λ (xs : List _). length xs) c.in_ok-with_capacity-4.ensures.items in

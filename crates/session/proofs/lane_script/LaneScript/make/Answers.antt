@@ -4,7 +4,7 @@ use Rattle.nvm_model.specs.declared.script.Act.{Act}
 use Rattle.nvm_model.specs.declared.script.LaneSet.{LaneSet}
 use Rattle.nvm_model.specs.ScriptText.{IsSet, IsAct}
 use Rattle.nvm_model.specs.World.{acts_of, set_of}
-use Rattle.session.proofs.LaneLemmas.{acts_fit, acts_few, set_fits}
+use Rattle.turns.proofs.ScriptLaws.{acts_fit, acts_few, set_fits}
 use Rattle.session.proofs.lane_script.LaneScript.make.Goals as goal
 
 pub returns-clause-made : goal.returns-clause-made
