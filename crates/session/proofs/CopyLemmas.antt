@@ -1,4 +1,4 @@
-use Rattle.std.proofs.Common.{suc, zero, ◌≡◌, ◌+◌, ◌-◌, ◌/◌, ◌%◌, ◌<◌, ℕ, Bool, true, false, Result, Ok, Err, List, [], ◌∷◌, ◌++◌, map, refl, sym, ap, subst, ◌∙◌, append_assoc, arith}
+use Rattle.std.proofs.Common.{suc, zero, ◌≡◌, ◌+◌, ◌-◌, ◌<◌, ℕ, Bool, true, false, Result, Ok, Err, List, [], ◌∷◌, ◌++◌, map, refl, sym, ap, subst, ◌∙◌, append_assoc, arith}
 use Rattle.std.specs.Prelude.{is_err}
 use Rattle.std.proofs.lemmas.List.{map-append}
 use Rattle.std.proofs.lemmas.Grind.{flat_map-append}
@@ -8,9 +8,9 @@ use Rattle.nvm_model.specs.Chain.{Chain}
 use Rattle.nvm_model.specs.Medium.{At, IsAt, MediumState}
 use Rattle.nvm_model.proofs.ChainLemmas.{chain_more}
 use Rattle.nvm_blocks.specs.Namespace.{HasCalled, NamespaceState, media_of}
-use Rattle.nvm_model.specs.Run.{AllCopied, CopiesAll, CopiesUpTo, Copy, at_block, get_of, gets_of, put_of, puts_of}
+use Rattle.nvm_model.specs.Run.{AllCopied, CopiesAll, Copy, at_block, get_of, gets_of, put_of, puts_of}
 use Rattle.nvm_model.specs.Run.CopyEnd.{Copied, NotRead, NotWritten}
-use Rattle.session.specs.Copies.{AreAlike, AreEnded, Both, CopiesTo, SamePlace, both}
+use Rattle.session.specs.Copies.{AreEnded, Both, CopiesTo, SamePlace, both}
 use Rattle.session.specs.Place.{PlaceState}
 use Rattle.session.proofs.ShelvesLemmas.{called_same, same_more, same_stay}
 

@@ -1,4 +1,4 @@
-use Rattle.std.proofs.Common.{◌≡◌, ℕ, ◌+◌, ◌-◌, ◌<◌, ◌≤◌, inr, false, Option, Some, None, List, [], length, map, slice_index_or, take, refl, sym, ap, ◌∙◌, arith}
+use Rattle.std.proofs.Common.{◌≡◌, ℕ, ◌+◌, ◌-◌, ◌<◌, ◌≤◌, inr, false, Option, Some, None, List, length, slice_index_or, take, refl, sym, ap, ◌∙◌, arith}
 use Rattle.std.proofs.lemmas.List.{get_or-map, length-map, length-take-le}
 use Rattle.nvm_model.specs.declared.script.LaneSet.{LaneSet}
 use Rattle.nvm_model.specs.declared.script.Script.{Script}
@@ -6,7 +6,7 @@ use Rattle.nvm_model.specs.ScriptText.{IsScript, IsTurn}
 use Rattle.nvm_model.specs.World.{set_of}
 use Rattle.controller.specs.declared.controller.Phase.TheVariants.{Running}
 use Rattle.controller.specs.Pair.{ControllerState, IsMade, PairState, new_pair, no_pair, pair_of}
-use Rattle.nvm_model.specs.Run.{Here, memory_of}
+use Rattle.nvm_model.specs.Run.{Here}
 use Rattle.session.specs.Lanes.{start_lanes}
 use Rattle.session.specs.Opened.{IsNewPlace, Opens}
 use Rattle.session.specs.Place.{AreQuiet, IsPlaceOf, PlaceState, StandsFor, StandsOn}

@@ -1,10 +1,9 @@
-use Rattle.std.proofs.Common.{◌≡◌, ◌⊎◌, inl, inr, ⊎_elim, ℕ, zero, suc, ◌+◌, ◌-◌, ◌<◌, ◌≤◌, Bool, true, false, Option, Some, None, Result, Ok, Err, List, [], ◌∷◌, length, refl, sym, ap, subst, ◌∙◌, arith}
+use Rattle.std.proofs.Common.{◌≡◌, ◌⊎◌, inl, inr, ⊎_elim, ℕ, zero, suc, ◌+◌, ◌-◌, ◌≤◌, Bool, true, false, Option, Some, None, Result, Ok, Err, List, [], ◌∷◌, length, refl, sym, ap, subst, ◌∙◌, arith}
 use Rattle.std.specs.Prelude.{IfOk, IsTrue, is_err}
 use Rattle.std.specs.List.{flat_map}
 use Rattle.mig_base.specs.Stream.{Writes}
 use Rattle.nvm_model.specs.declared.line.Line.{Line}
 use Rattle.nvm_model.specs.declared.line.Line.TheVariants as line
-use Rattle.nvm_model.specs.declared.script.Script.{Script}
 use Rattle.nvm_model.specs.declared.trace.Step.{Step}
 use Rattle.nvm_model.specs.Chain.{Chain}
 use Rattle.nvm_model.specs.History.{Complete}
@@ -12,10 +11,9 @@ use Rattle.nvm_model.specs.Medium.{At, IsAt, MediumState}
 use Rattle.nvm_model.specs.Text.{text_of}
 use Rattle.nvm_model.specs.World.{Lane}
 use Rattle.controller.specs.Pair.{ControllerState}
-use Rattle.guest_ram.specs.Ram.{all_pages, shape}
+use Rattle.guest_ram.specs.Ram.{all_pages}
 use Rattle.guest_ram.specs.Window.{WindowState}
-use Rattle.nvm_blocks.specs.Namespace.{NamespaceState, media_of}
-use Rattle.nvm_model.specs.declared.run.RunPhase.{RunPhase}
+use Rattle.nvm_blocks.specs.Namespace.{media_of}
 use Rattle.nvm_model.specs.declared.run.RunPhase.TheVariants.{New, Running, Suspended, Over}
 use Rattle.nvm_model.specs.declared.run.Side.{Side}
 use Rattle.nvm_model.specs.declared.run.Side.TheVariants.{Source, Destination}
@@ -30,7 +28,7 @@ use Rattle.session.specs.Lanes.{HaveWindows}
 use Rattle.session.specs.Shelves.{IsNamespaceOf}
 use Rattle.nvm_model.specs.Told.{serial}
 use Rattle.session.specs.Place.{AreAllDone, AreQuiet, DoesTurn, IsPlaceOf, IsReady, PlaceState, StandsFor, StandsOn, machine, pages_of}
-use Rattle.session.specs.Sides.{Goes, GoesTo, IsAhead, IsDueAfter, IsEnding, IsMoveDue, IsOnward, SessionState, Sides, StandsAs, at_side, by_side, less_one, machine_of, sides, turns_ahead}
+use Rattle.session.specs.Sides.{Goes, IsAhead, IsDueAfter, IsEnding, IsMoveDue, IsOnward, SessionState, Sides, at_side, by_side, less_one, machine_of, sides, turns_ahead}
 use Rattle.session.proofs.MemoryLemmas.{have_pages, same_pages, same_windows, whole_memory}
 use Rattle.session.proofs.ShelvesLemmas.{same_namespace}
 use Rattle.session.proofs.RestLemmas.{complete_is, done_is}

@@ -1,6 +1,5 @@
-use Rattle.std.proofs.Common.{◌≡◌, ◌∙◌, [], ◌∷◌, true, is_err, refl, sym, subst, ap, rules}
+use Rattle.std.proofs.Common.{◌∙◌, sym, ap}
 use Rattle.std.proofs.lemmas.Result.{err_from_is_err_and}
-use Rattle.session.specs.Copies.{CopiesTo, both}
 use Rattle.session.specs.Place.{PlaceState}
 use Rattle.session.proofs.CopyLemmas.{copies_not_read, copies_read}
 use Rattle.session.proofs.place.Place.copy_block.Goals as goal

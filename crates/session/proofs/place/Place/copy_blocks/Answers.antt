@@ -1,10 +1,8 @@
-use Rattle.std.proofs.Common.{◌≡◌, ◌+◌, ◌<◌, [], ◌∷◌, is_err, ℕ, refl, sym, subst, ap, ◌∙◌, rules, arith}
+use Rattle.std.proofs.Common.{rules}
 use Rattle.std.proofs.lemmas.Result.{err_from_is_err_and}
-use Rattle.std.specs.List.{range_with_len}
 use Rattle.nvm_blocks.specs.Namespace.{block_count}
-use Rattle.session.specs.Copies.{CopiesTo, both}
+use Rattle.session.specs.Copies.{both}
 use Rattle.session.proofs.CopyLemmas.{copies_next, copies_none, copies_stop}
-use Rattle.session.proofs.ShelvesLemmas.{same_count}
 use Rattle.session.proofs.place.Place.copy_blocks.Goals as goal
 
 pub loop-b-init : goal.loop-b-init

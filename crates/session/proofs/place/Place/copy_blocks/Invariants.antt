@@ -1,6 +1,5 @@
-use Rattle.std.proofs.Common.{◌≡◌, false}
+use Rattle.std.proofs.Common.{false}
 use Rattle.std.specs.List.{range_with_len}
-use Rattle.nvm_blocks.specs.Namespace.{block_count}
 use Rattle.session.specs.Copies.{CopiesTo, both}
 use Rattle.session.proofs.place.Place.copy_blocks.Given as goal
 

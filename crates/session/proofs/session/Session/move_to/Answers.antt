@@ -1,6 +1,5 @@
-use Rattle.std.proofs.Common.{◌≡◌, ◌∙◌, false, true, ℕ, sym, subst, ap, refl}
+use Rattle.std.proofs.Common.{◌∙◌, false, true, ℕ, sym, subst, ap, refl}
 use Rattle.std.specs.List.{range_with_len}
-use Rattle.nvm_model.specs.declared.run.Side.{Side}
 use Rattle.nvm_model.specs.Run.{opposite}
 use Rattle.session.specs.declared.ending.Ending.{Ending}
 use Rattle.session.specs.Copies.{CopiesTo, both}

@@ -1,4 +1,3 @@
-use Rattle.std.proofs.Common.{◌≡◌}
 use Rattle.session.proofs.StageLemmas.{due_map, not_true}
 use Rattle.session.proofs.session.Session.next.Goals as goal
 

@@ -1,4 +1,4 @@
-use Rattle.std.proofs.Common.{◌∙◌, sym, subst, ap}
+use Rattle.std.proofs.Common.{sym, subst}
 use Rattle.session.specs.Sides.{IsMoveDue, IsRunning, SessionState}
 use Rattle.session.proofs.StageLemmas.{goes_begin}
 use Rattle.session.proofs.session.Session.suspend.Goals as goal

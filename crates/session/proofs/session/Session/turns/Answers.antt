@@ -1,4 +1,3 @@
-use Rattle.std.proofs.Common.{rules}
 use Rattle.std.proofs.lemmas.Result.{err_from_is_err_and}
 use Rattle.session.proofs.StageLemmas.{goes_more, onward_more}
 use Rattle.session.proofs.session.Session.turns.Goals as goal

@@ -1,6 +1,6 @@
-use Rattle.std.proofs.Common.{◌≡◌, false}
+use Rattle.std.proofs.Common.{false}
 use Rattle.session.specs.Place.{PlaceState, total_work}
-use Rattle.session.specs.Sides.{Goes, IsOnward, IsRunning, sides, sink}
+use Rattle.session.specs.Sides.{Goes, IsOnward, sides, sink}
 use Rattle.session.proofs.session.Session.turns.Given as goal
 
 abbrev pub invariant-turns : goal.invariant-turns

@@ -1,6 +1,5 @@
-use Rattle.std.proofs.Common.{rules, ◌≡◌, ℕ, List, ◌+◌, ◌<◌, ◌≤◌, length, take, sym, ap, subst, ◌∙◌, arith}
+use Rattle.std.proofs.Common.{rules, ℕ, List, subst, arith}
 use Rattle.std.proofs.lemmas.Result.{err_from_is_err_and}
-use Rattle.nvm_model.specs.Text.{text_of}
 use Rattle.session.specs.Waiting.{Waits}
 use Rattle.session.proofs.WaitingLemmas.{cut_short, lines_cut, all_lines, rest_sent, text_of_more, waits_cut, waits_more}
 use Rattle.session.proofs.text.Text.write.Goals as goal
