@@ -180,3 +180,7 @@ pub record IsKept (old new : ControllerState) : Type 0 where
   pub count : length new.pairs ≡ length old.pairs
   pub burst_is : new.burst ≡ old.burst
   pub between : All (λ p. p.commands ≡ []) new.pairs
+
+-- what a command comes to: dword 0, or why it was refused
+abbrev pub AdminResult : Type 0
+AdminResult = Result ℕ Refusal

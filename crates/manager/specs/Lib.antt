@@ -1,0 +1,5 @@
+pub mod Asks
+pub mod Move
+pub mod Owed
+pub mod Parts
+pub mod Port

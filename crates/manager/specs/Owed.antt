@@ -1,0 +1,34 @@
+use Rattle.std.specs.Prelude.{◌≡◌, ◌⊎◌, ℕ, ◌+◌, Bool, true, false, List, [], ◌∷◌, Option, Some, None, length, slice_index_or}
+
+-- What is owed to the destination: of each block, or page, whether it is.
+
+-- the places that are owed, ascending, the first of these being place k
+abbrev pub places_from : ℕ → List Bool → List ℕ
+places_from k [] = []
+places_from k (true ∷ owed) = k ∷ places_from (k + 1) owed
+places_from k (false ∷ owed) = places_from (k + 1) owed
+
+abbrev pub places_of : List Bool → List ℕ
+places_of owed = places_from 0 owed
+
+-- Two sides that differ in these places at most.
+
+abbrev pub IsAmong : ℕ → List ℕ → Type 0
+IsAmong i [] = ⊥
+IsAmong i (place ∷ places) = (i ≡ place) ⊎ IsAmong i places
+
+pub record DifferIn (count : ℕ) (places : List ℕ) (from to : List (List ℕ)) : Type 0 where
+  pub from_long : length from ≡ count
+  pub to_long : length to ≡ count
+  pub same : (i : ℕ) → (slice_index_or to i [] ≡ slice_index_or from i []) ⊎ IsAmong i places
+
+-- the same where both are told
+abbrev pub TellDifference : ℕ → List ℕ → Option (List (List ℕ)) → Option (List (List ℕ)) → Type 0
+TellDifference count places (Some from) (Some to) = DifferIn count places from to
+TellDifference count places (Some from) None = Unit {0}
+TellDifference count places None to = Unit {0}
+
+abbrev pub TellSame : Option (List (List ℕ)) → Option (List (List ℕ)) → Type 0
+TellSame (Some from) (Some to) = to ≡ from
+TellSame (Some from) None = Unit {0}
+TellSame None to = Unit {0}

@@ -1,0 +1,120 @@
+use Rattle.std.specs.Prelude.{◌≡◌, ℕ, ◌+◌, ◌<◌, ◌≤◌, List, [], Option, All, length, slice_index_or, slice_set}
+use Rattle.mig_base.specs.Count.{RisesBy}
+use Rattle.nvm_model.specs.Medium.{StayTold}
+use Rattle.adm_values.specs.declared.command.AdminCmd.{AdminCmd}
+use Rattle.adm_values.specs.declared.command.AdminCpl.{AdminCpl}
+use Rattle.adm_values.specs.Command.{IsCommand, command_bytes}
+use Rattle.controller.specs.Admin.{Answers, FitsBuffer}
+use Rattle.controller.specs.Pair.{ControllerState, PairState}
+use Rattle.manager.specs.declared.side.CopyAnswer.{CopyAnswer}
+use Rattle.manager.specs.declared.side.CopyAnswer.TheVariants.{Copied, Fault}
+use Rattle.manager.specs.declared.side.Side.{Side}
+use Rattle.manager.specs.declared.side.Side.TheVariants.{From, To}
+
+-- A port between the two sides of a move. Its calls are seen with their data.
+
+-- What contracts see of a side: its blocks where they are told, how many calls of its media failed, the guests' window
+-- pages, and its controller.
+pub record SideState : Type 0 where
+  pub blocks : Option (List (List ℕ))
+  pub faults : ℕ
+  pub pages : List (List ℕ)
+  pub controller : ControllerState
+
+-- The side that is left and the other one, how many blocks each has, how many calls may still be made, and a meaning of
+-- the port's own.
+pub record PortState (I : Type 0) : Type 0 where
+  pub from : SideState
+  pub to : SideState
+  pub count : ℕ
+  pub left : ℕ
+  pub inside : I
+
+abbrev pub side_of : {I : Type 0} → Side → PortState I → SideState
+side_of From p = p.from
+side_of To p = p.to
+
+-- A call with its answer, and with the bytes that went through it.
+pub data PortCall : Type 0 where
+  -- a block is got at the source and put at the destination
+  Copy : ℕ → List ℕ → CopyAnswer → PortCall
+  -- an admin command goes to a side's controller: its buffer before, its completion, and the buffer after
+  Admin : Side → AdminCmd → List ℕ → AdminCpl → List ℕ → PortCall
+  -- a window page is copied
+  CopyPage : ℕ → PortCall
+  -- every medium gets the mark
+  Mark : ℕ → PortCall
+
+-- A copy.
+
+-- the bytes that came are the block's, where it was read
+abbrev pub IsRead : CopyAnswer → ℕ → List (List ℕ) → List ℕ → Type 0
+IsRead Copied b blocks bytes = bytes ≡ slice_index_or blocks b []
+IsRead (Fault From) b blocks bytes = Unit {0}
+IsRead (Fault To) b blocks bytes = bytes ≡ slice_index_or blocks b []
+
+-- a copy that failed leaves every block
+abbrev pub with_copy : CopyAnswer → ℕ → List ℕ → List (List ℕ) → List (List ℕ)
+with_copy Copied b bytes blocks = slice_set blocks b bytes
+with_copy (Fault side) b bytes blocks = blocks
+
+abbrev pub HasCause : {I : Type 0} → CopyAnswer → PortState I → PortState I → Type 0
+HasCause Copied old new = Unit {0}
+HasCause (Fault side) old new = RisesBy 1 (side_of side old).faults (side_of side new).faults
+
+-- a side whose blocks and count of faults may have changed
+abbrev pub with_media_of : SideState → SideState → SideState
+with_media_of new old = record old { blocks = new.blocks; faults = new.faults }
+
+pub record Copies {I : Type 0} (old : PortState I) (b : ℕ) (bytes : List ℕ) (answer : CopyAnswer) (new : PortState I) : Type 0 where
+  pub there : b < old.count
+  pub read : StayTold (λ bs cs. (cs ≡ bs) × IsRead answer b bs bytes) old.from.blocks new.from.blocks
+  pub written : StayTold (λ bs cs. cs ≡ with_copy answer b bytes bs) old.to.blocks new.to.blocks
+  pub cause : HasCause answer old new
+  pub from_later : old.from.faults ≤ new.from.faults
+  pub to_later : old.to.faults ≤ new.to.faults
+  pub from_is : new.from ≡ with_media_of new.from old.from
+  pub to_is : new.to ≡ with_media_of new.to old.to
+
+-- An admin command: that side's controller answers it by its table, and nothing else changes.
+
+abbrev pub with_controller : ControllerState → SideState → SideState
+with_controller c side = record side { controller = c }
+
+abbrev pub IsAnswered : {I : Type 0} → Side → PortState I → ControllerState → PortState I → Type 0
+IsAnswered From old c new = (new.from ≡ with_controller c old.from) × (new.to ≡ old.to)
+IsAnswered To old c new = (new.from ≡ old.from) × (new.to ≡ with_controller c old.to)
+
+pub record Commands {I : Type 0} (old : PortState I) (side : Side) (cmd : AdminCmd) (bytes : List ℕ) (cpl : AdminCpl) (new_bytes : List ℕ) (new : PortState I) : Type 0 where
+  pub controller : ControllerState
+  pub answers : Answers (command_bytes cmd) (side_of side old).controller bytes cpl controller new_bytes
+  pub sides : IsAnswered side old controller new
+
+-- a command may go to a side: no command of a guest is under way there, and the buffer has the length that is named
+pub record MayCommand (side : SideState) (cmd : AdminCmd) (bytes : List ℕ) : Type 0 where
+  pub command : IsCommand cmd
+  pub quiet : All (λ (p : PairState). p.commands ≡ []) side.controller.pairs
+  pub buffer : FitsBuffer (command_bytes cmd) (length bytes)
+
+-- A page.
+
+pub record CopiesPage {I : Type 0} (old : PortState I) (page : ℕ) (new : PortState I) : Type 0 where
+  pub from_is : new.from ≡ old.from
+  pub to_is : new.to ≡ record old.to { pages = slice_set old.to.pages page (slice_index_or old.from.pages page []) }
+
+abbrev pub HasPage : {I : Type 0} → PortState I → ℕ → Type 0
+HasPage p page = (page < length p.from.pages) × (page < length p.to.pages)
+
+-- a mark is seen by the port's own meaning alone
+abbrev pub DoesCall : {I : Type 0} → PortState I → PortCall → PortState I → Type 0
+DoesCall old (Copy b bytes answer) new = Copies old b bytes answer new
+DoesCall old (Admin side cmd bytes cpl new_bytes) new = Commands old side cmd bytes cpl new_bytes new
+DoesCall old (CopyPage page) new = CopiesPage old page new
+DoesCall old (Mark n) new = (new.from ≡ old.from) × (new.to ≡ old.to)
+
+-- one call of a port, whose own meaning goes on by its relation
+pub record IsPortCall {I : Type 0} (moves : I → PortCall → I → Type 0) (old : PortState I) (c : PortCall) (new : PortState I) : Type 0 where
+  pub does : DoesCall old c new
+  pub count : new.count ≡ old.count
+  pub left : old.left ≤ new.left + 1
+  pub moved : moves old.inside c new.inside

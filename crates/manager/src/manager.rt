@@ -1,0 +1,167 @@
+ghost use Rattle.std.specs.Prelude.{◌≡◌, ◌^◌, ◌<◌, ◌↔◌, IfOk, IsTrue, false, true};
+ghost use Rattle.manager.specs.Asks.{Asked};
+ghost use Rattle.manager.specs.Move.{Covers, Fits, HasCut, IsCutOver, IsDue, IsGivenUp, IsMoveSet, IsOn, IsSource, MayCutOver, SidesAfter, Spends, give_up_asks, with_all};
+ghost use Rattle.manager.specs.declared.manager.MovePhase.TheVariants.{New, Begun, GivenUp};
+
+use crate::owed::Owed;
+use crate::port::Port;
+use crate::side::Side;
+use crate::steps::{copy_blocks, copy_pages, hand_over, resume, suspend};
+use mig_base::OutOfMemory;
+use std::alloc::Global;
+use std::marker::Model;
+
+/// What a move is asked to do.
+#[derive(Clone, Copy)]
+pub struct MoveSet {
+    /// The blocks of either side, from 1 to 131,072.
+    pub blocks: u32,
+    /// The window pages of either side, from 1 to 2,064.
+    pub ram_pages: u32,
+    /// How many blocks are copied in a turn at most.
+    pub slice: u32,
+    /// The cutover is due where at most so many blocks are owed,
+    pub small: u32,
+    /// and at most so many pages,
+    pub pages: u32,
+    /// or after so many turns.
+    pub patience: u32,
+    /// The cells of the change queue, from 2 to 65,536.
+    pub cells: u32,
+}
+
+/// Where a move is.
+#[derive(Clone, Copy)]
+pub enum MovePhase {
+    New,
+    /// The source runs, and is owed for.
+    Begun,
+    /// The source is suspended, and a copy failed.
+    Stopped,
+    /// The destination runs.
+    Moved,
+    /// The source goes on.
+    GivenUp,
+}
+
+/// How many blocks and pages were copied while no side ran.
+#[derive(Clone, Copy, PartialEq, Eq)]
+pub struct Pause {
+    pub blocks: u32,
+    pub pages: u32,
+}
+
+/// A call of a medium of that side failed.
+#[derive(Clone, Copy, PartialEq, Eq)]
+pub struct MediumFault {
+    pub side: Side,
+}
+
+/// A move from one side to the other, and what it owes.
+#[derive(Drop)]
+pub struct Manager {
+    set: MoveSet,
+    phase: MovePhase,
+    blocks: Owed,
+    pages: Owed,
+}
+
+impl Model for Manager {
+    ghost use Rattle.std.specs.Prelude.{◌≡◌, length};
+    ghost use Rattle.manager.specs.Move.{IsMoveSet, ManagerState};
+
+    ghost Value = { ManagerState };
+
+    ghost view = { λ m. record { set = m.set; phase = m.phase; blocks = m.blocks; pages = m.pages } };
+
+    ghost invariant = { λ m. IsMoveSet m.set × (length m.blocks ≡ m.set.blocks) × (length m.pages ≡ m.set.ram_pages) };
+}
+
+impl Manager {
+    /// A manager of a move that hasn't begun. It takes all memory of the move.
+    ///
+    /// # Errors
+    ///
+    /// `OutOfMemory` where there is no memory for it.
+    pub fn make(alloc: Global, set: MoveSet) -> Result<Manager, OutOfMemory>
+        requires { IsMoveSet set }
+        ensures { IfOk result (λ m. m ≡ with_all false New set) }
+    {
+        Ok(Manager {
+            set,
+            phase: MovePhase::New,
+            blocks: Owed::make(alloc, set.blocks)?,
+            pages: Owed::make(alloc, set.ram_pages)?,
+        })
+    }
+
+    /// Begins: all blocks and all pages are owed. Answers whether the cutover is due.
+    pub fn begin(&mut self) -> bool
+        requires { self.old.phase ≡ New }
+        ensures began { self.new ≡ with_all true Begun self.old.set }
+        ensures covers { Covers self.new }
+        ensures due { IsTrue result ↔ IsDue self.new }
+    {
+        self.phase = MovePhase::Begun;
+        self.blocks.owe_all();
+        self.pages.owe_all();
+        self.is_due()
+    }
+
+    fn is_due(&self) -> bool
+        ensures { IsTrue result ↔ IsDue self.now }
+    {
+        self.blocks.count() <= self.set.small && self.pages.count() <= self.set.pages
+    }
+
+    /// Suspends the source, copies what is owed, hands the state over and resumes the destination, after turn `t`. Answers
+    /// how much was copied. The port has two sides of this move's size, with no command under way at either, and 2^18 calls
+    /// left, of which at most so many are taken; the source runs, and the destination waits for a state of as many queue
+    /// pairs. Nothing takes memory.
+    ///
+    /// # Errors
+    ///
+    /// `MediumFault` only where that side's count of faults rose. The source is suspended then, and the move can only be
+    /// given up.
+    pub fn cut_over<P: Port>(&mut self, t: u64, port: &mut P) -> Result<Pause, MediumFault>
+        requires turn { t < 2 ^ 62 }
+        requires phase { self.old.phase ≡ Begun }
+        requires fits { Fits self.old (P.state port.old) }
+        requires sides { MayCutOver (P.state port.old) }
+        ensures asked { IsCutOver P.moves t self.old result (P.state port.old) (P.state port.new) }
+        ensures sides { SidesAfter self.old result (P.state port.old) (P.state port.new) }
+        ensures manager { HasCut result self.old self.new }
+        ensures left { Spends (P.state port.old) (P.state port.new) }
+    {
+        self.phase = MovePhase::Stopped;
+        suspend(t, port);
+        copy_blocks(&self.blocks, port)?;
+        copy_pages(&self.pages, port);
+        hand_over(port);
+        resume(Side::To, t, port);
+        self.phase = MovePhase::Moved;
+        Ok(Pause {
+            blocks: self.blocks.count(),
+            pages: self.pages.count(),
+        })
+    }
+
+    /// Gives the move up, after turn `t`: the source goes on. It needs what `cut_over` needs of the port's size and of the
+    /// calls that are left, and a source that runs, or is suspended where a cutover failed.
+    pub fn give_up<P: Port>(&mut self, t: u64, port: &mut P)
+        requires turn { t < 2 ^ 62 }
+        requires phase { IsOn self.old.phase }
+        requires fits { Fits self.old (P.state port.old) }
+        requires source { IsSource self.old.phase (P.state port.old).from }
+        ensures asked { Asked P.moves (give_up_asks self.old.phase t) (P.state port.old) (P.state port.new) }
+        ensures sides { IsGivenUp (P.state port.old) (P.state port.new) }
+        ensures manager { self.new ≡ record self.old { phase = GivenUp } }
+        ensures left { Spends (P.state port.old) (P.state port.new) }
+    {
+        match self.phase {
+            MovePhase::Stopped => resume(Side::From, t, port),
+            _ => port.mark(3 * t + 2),
+        }
+        self.phase = MovePhase::GivenUp;
+    }
+}
