@@ -6,8 +6,7 @@ use Rattle.nvm_model.specs.ScriptText.{IsScript, IsTurn}
 use Rattle.nvm_model.specs.World.{set_of}
 use Rattle.controller.specs.declared.controller.Phase.TheVariants.{Running}
 use Rattle.controller.specs.Pair.{ControllerState, IsMade, PairState, new_pair, no_pair, pair_of}
-use Rattle.nvm_model.specs.Run.{Here}
-use Rattle.session.specs.Lanes.{start_lanes}
+use Rattle.nvm_model.specs.Run.{Here, start_lanes}
 use Rattle.session.specs.Opened.{IsNewPlace, Opens}
 use Rattle.session.specs.Place.{AreQuiet, IsPlaceOf, PlaceState, StandsFor, StandsOn}
 use Rattle.session.specs.Sides.{IsAhead, IsNewSession, SessionState, machine_of, turns_ahead}

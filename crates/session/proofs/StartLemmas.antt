@@ -13,7 +13,8 @@ use Rattle.lanes.proofs.StartLemmas.{new_stands as guest_starts}
 use Rattle.lanes.specs.Guest.{GuestState}
 use Rattle.controller.specs.Pair.{ControllerState, PairState, new_pair, outcomes_of, pair_of, worked}
 use Rattle.session.specs.declared.lane_run.LaneRun.{LaneRun}
-use Rattle.session.specs.Lanes.{HaveWindows, IsNewRun, Stands, start_lanes, window_of}
+use Rattle.nvm_model.specs.Run.{start_lanes}
+use Rattle.session.specs.Lanes.{HaveWindows, IsNewRun, Stands, window_of}
 use Rattle.session.specs.Place.{AreQuiet, StandsFor}
 use Rattle.turns.proofs.ScriptLaws.{set_fits}
 

@@ -3,7 +3,7 @@ use Rattle.nvm_model.specs.declared.script.Script.{Script}
 use Rattle.nvm_ring.specs.Queues.{HasEnds, HasGuestEnds, HasWindow, IsOrdered}
 use Rattle.nvm_model.specs.ScriptText.{IsSet, IsAct}
 use Rattle.nvm_model.specs.Turn.{word_state}
-use Rattle.nvm_model.specs.World.{Lane, set_of, acts_of, start_world}
+use Rattle.nvm_model.specs.World.{Lane, set_of, acts_of}
 use Rattle.guest_ram.specs.Window.{WindowState, no_window}
 use Rattle.hall.specs.Plan.{PlanState, pieces_of}
 use Rattle.controller.specs.Pair.{ControllerState, IsFetched, PairState, lane_pieces, outcomes_of, pair_of, told_fetch, worked}
@@ -49,10 +49,6 @@ pub record IsNewRun (s : Script) (k : ℕ) (run : LaneRun) : Type 0 where
   pub acts : run.acts_done ≡ 0
   pub results : run.results.items ≡ []
   pub guest : run.guest ≡ record { lane = k; sq = record { size = (set_of s.head k).sq; head = 0; tail = 0 }; cq = record { size = (set_of s.head k).cq; head = 0; phase = true }; waiting = 0 }
-
--- the lanes at the start
-abbrev pub start_lanes : Script → List Lane
-start_lanes s = (start_world s.head []).lanes
 
 -- the commands of lane k and their pieces stand in the plan
 pub record IsPlanned (s : Script) (k : ℕ) (plan : PlanState) (pair : PairState) : Type 0 where
