@@ -1,4 +1,5 @@
 use Rattle.std.specs.Prelude.{◌≡◌, ℕ, ◌+◌, ◌*◌, ◌<◌, ◌≤◌, Bool, true, false, cond, List, [], ◌∷◌, ◌++◌, Option, Some, None, Result, Ok, Err, All, IfSome, length, map, slice_index_or, slice_set}
+use Rattle.std.specs.List.{range_with_len}
 use Rattle.mig_base.specs.Count.{RisesBy}
 use Rattle.nvm_model.specs.declared.trace.Step.{Step}
 use Rattle.nvm_model.specs.declared.trace.Step.TheVariants.{Get, Put, Mark}
@@ -100,6 +101,10 @@ pub record At : Type 0 where
 
 abbrev pub all_at : ℕ → List Call → List At
 all_at i calls = map (λ (c : Call). record { shelf = i; call = c }) calls
+
+-- a mark as calls of so many media, one of each
+abbrev pub marks_at : ℕ → ℕ → List At
+marks_at count n = map (λ (i : ℕ). record { shelf = i; call = marked n }) (range_with_len 0 count)
 
 -- in their order, what each tells of its blocks, how many calls of each failed, and how many blocks each has
 abbrev pub told_in : {M I : Type 0} → (M → MediumState I) → List M → List (Option (List (List ℕ)))

@@ -13,7 +13,7 @@ use Rattle.nvm_model.specs.declared.trace.Step.{Step}
 use Rattle.nvm_model.specs.declared.trace.Step.TheVariants.{Get, Put}
 use Rattle.nvm_model.specs.Chain.{Chain}
 use Rattle.nvm_model.specs.History.{Complete}
-use Rattle.nvm_model.specs.Medium.{At, Call, IsAt, MediumState, all_at}
+use Rattle.nvm_model.specs.Medium.{At, Call, IsAt, MediumState, all_at, marks_at}
 use Rattle.nvm_model.specs.Piece.{after_piece, digest_after, done_blocks, piece_at, piece_count, pieces_left}
 use Rattle.nvm_model.specs.Ring.{lane_windows}
 use Rattle.nvm_model.specs.Shelf.{digest_bytes}
@@ -183,6 +183,18 @@ puts_of shelf c = of c.ended
     of NotRead = []
     of NotWritten = at_block shelf c.block (put_of c.bytes true) ∷ []
 
+-- how many media a side has
+abbrev pub media_count : Script → ℕ
+media_count s = s.head.blocks / s.head.shelf
+
+-- The calls of a move at the side that is left, and at the other: each medium is marked where the guests are suspended, and
+-- where they go on.
+abbrev pub left_calls : Script → List Copy → List At
+left_calls s copies = marks_at (media_count s) 1 ++ (flat_map (gets_of s.head.shelf) copies ++ marks_at (media_count s) 2)
+
+abbrev pub taken_calls : Script → List Copy → List At
+taken_calls s copies = marks_at (media_count s) 1 ++ (flat_map (puts_of s.head.shelf) copies ++ marks_at (media_count s) 2)
+
 abbrev pub AllCopied : List Copy → Type 0
 AllCopied copies = AllByRecursion (λ (c : Copy). c.ended ≡ Copied) copies
 
@@ -243,8 +255,8 @@ abbrev pub calls_at : Script → Side → Stage → List At
 calls_at s who Title = []
 calls_at s who (Turn side t) = by_side who side (turn_calls t) []
 calls_at s who Begin = []
-calls_at s who (Resume side copies) = by_side who side (flat_map (gets_of s.head.shelf) copies) (flat_map (puts_of s.head.shelf) copies)
-calls_at s who (GiveUp side copies) = by_side who side (flat_map (gets_of s.head.shelf) copies) (flat_map (puts_of s.head.shelf) copies)
+calls_at s who (Resume side copies) = by_side who side (left_calls s copies) (taken_calls s copies)
+calls_at s who (GiveUp side copies) = by_side who side (left_calls s copies) (taken_calls s copies)
 calls_at s who End = []
 
 -- Snapshots.
@@ -329,8 +341,8 @@ pub record IsResume {M I : Type 0} (state : M → MediumState I) (moves : I → 
   pub was : old.phase ≡ Suspended
   pub stood : side ≡ old.side
   pub copies_all : CopiesAll (all_blocks old.task.script) copies
-  pub gets : Chain (IsAt state moves) old.at (flat_map (gets_of old.task.script.head.shelf) copies) new.other
-  pub puts : Chain (IsAt state moves) old.other (flat_map (puts_of old.task.script.head.shelf) copies) new.at
+  pub gets : Chain (IsAt state moves) old.at (left_calls old.task.script copies) new.other
+  pub puts : Chain (IsAt state moves) old.other (taken_calls old.task.script copies) new.at
   pub after : new ≡ record old { phase = Running; side = opposite old.side; at = new.at; other = new.other; left = memory_of old.task.script old.lanes; out = new.out }
 
 -- a call failed, and the guests go on where they were
@@ -338,8 +350,8 @@ pub record IsGiveUp {M I : Type 0} (state : M → MediumState I) (moves : I → 
   pub was : old.phase ≡ Suspended
   pub stood : side ≡ old.side
   pub copies_stop : CopiesUpTo (all_blocks old.task.script) copies
-  pub gets : Chain (IsAt state moves) old.at (flat_map (gets_of old.task.script.head.shelf) copies) new.at
-  pub puts : Chain (IsAt state moves) old.other (flat_map (puts_of old.task.script.head.shelf) copies) new.other
+  pub gets : Chain (IsAt state moves) old.at (left_calls old.task.script copies) new.at
+  pub puts : Chain (IsAt state moves) old.other (taken_calls old.task.script copies) new.other
   pub after : new ≡ record old { phase = Running; at = new.at; other = new.other; out = new.out }
 
 pub record IsEnd {M : Type 0} (old new : Snapshot M) : Type 0 where

@@ -4,6 +4,7 @@ pub mod Lanes
 pub mod Opened
 pub mod Phases
 pub mod Place
+pub mod Port
 pub mod Seats
 pub mod Shelves
 pub mod Sides
