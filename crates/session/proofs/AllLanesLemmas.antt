@@ -87,7 +87,6 @@ place_more {M} {s} same first is = record {
   windows = each_window same.windows first is.windows;
   pairs = same.pairs.count ∙ is.pairs;
   burst = same.pairs.burst ∙ is.burst;
-  phase = same.pairs.phase ∙ is.phase;
 }
 
 -- and the runs are those of the script
@@ -99,6 +98,7 @@ fit_more {s = s} {runs} i k run at there this same fit = record {
     each = λ j d low high. each_run runs i k run (IsRunOf s) s.head.lanes d at there fit.own.count this (λ m first last other. fit.own.each m d first last) j low high;
   };
   at = place_more same (omega (arith, at)) fit.at;
+  running = same.pairs.phase ∙ fit.running;
 }
 
 -- what holds of the run of lane k, where it stands

@@ -33,7 +33,6 @@ is_place {M} {s} {media} {place} is new =
       windows = have_made is new.windows;
       pairs = ap (λ (pairs : List PairState). length pairs) new.controller.pairs ∙ length-map sets (new_pair s.head.burst) ∙ length-take-le s.head.lanes s.head.sets enough;
       burst = new.controller.burst_is;
-      phase = new.controller.phase_is;
     }
 
 -- its runs stand for the lanes at the start, with either place
@@ -54,7 +53,7 @@ opens {M} {session} {from_media} {to_media} {from} {to} is new source destinatio
     let lanes = starts is new source in
     let stands : StandsOn s (machine_of session from) here = record { lanes = lanes.0; media = sym source.media_are; words = inr new.words } in
     record {
-      ready = record { script = is; runs = new.runs; place = is_place is source; mix = new.mix; quiet = lanes.1; stood = here; stands = stands };
+      ready = record { script = is; runs = new.runs; place = is_place is source; running = source.controller.phase_is; mix = new.mix; quiet = lanes.1; stood = here; stands = stands };
       place = is_place is destination;
       stands = λ out. record {
         task = refl;

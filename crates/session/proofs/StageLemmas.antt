@@ -189,8 +189,8 @@ ready_copied {M} {old} {at} s ready same =
         windows = subst (HaveWindows s.script) (sym windows) ready.place.windows;
         pairs = ap (λ (c : ControllerState). length c.pairs) controller ∙ ready.place.pairs;
         burst = ap (λ (c : ControllerState). c.burst) controller ∙ ready.place.burst;
-        phase = ap (λ (c : ControllerState). c.phase) controller ∙ ready.place.phase;
       };
+      running = ap (λ (c : ControllerState). c.phase) controller ∙ ready.running;
       mix = ready.mix;
       quiet = subst (AreQuiet s.script s.runs) (sym controller) ready.quiet;
       stood = record ready.stood { media = media_of at.namespace };
@@ -222,8 +222,8 @@ ready_there {M} s {at} {to} {new_at} {new_to} ready place handed =
         windows = same_windows place.windows handed.shape;
         pairs = ap (λ (c : ControllerState). length c.pairs) controller ∙ ready.place.pairs;
         burst = ap (λ (c : ControllerState). c.burst) controller ∙ ready.place.burst;
-        phase = ap (λ (c : ControllerState). c.phase) controller ∙ ready.place.phase;
       };
+      running = ap (λ (c : ControllerState). c.phase) controller ∙ ready.running;
       mix = ready.mix;
       quiet = subst (AreQuiet s.script s.runs) (sym controller) ready.quiet;
       stood = record ready.stood { media = media_of new_to.namespace };

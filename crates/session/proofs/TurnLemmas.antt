@@ -92,7 +92,7 @@ turn_by_phases p h stands = (phases_from p h stands).0
 pub ready_after : {M I : Type 0} {state : M → MediumState I} {moves : I → Step → Bool → I → Type 0} {s : Script} {old new : Machine M} {events : List Line} → Phases state moves s old new events → IsReady s new
 ready_after p =
     let turn = turn_by_phases p p.ready.stood p.ready.stands in
-    record { script = p.ready.script; runs = p.fit.own; place = p.fit.at; mix = p.mix; quiet = p.quiet; stood = turn.new; stands = turn.stands }
+    record { script = p.ready.script; runs = p.fit.own; place = p.fit.at; running = p.fit.running; mix = p.mix; quiet = p.quiet; stood = turn.new; stands = turn.stands }
 
 -- and has less left
 pub less_after : {M I : Type 0} {state : M → MediumState I} {moves : I → Step → Bool → I → Type 0} {s : Script} {old new : Machine M} {events : List Line} → Phases state moves s old new events →

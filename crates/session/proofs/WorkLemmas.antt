@@ -388,8 +388,8 @@ plan_after {s = s} {plan = plan} {old} {new} {piece} {result} at low does has is
       };
       pairs = ap (λ (c : ControllerState). length c.pairs) does.controller ∙ is.fit.at.pairs;
       burst = ap (λ (c : ControllerState). c.burst) does.controller ∙ is.fit.at.burst;
-      phase = ap (λ (c : ControllerState). c.phase) does.controller ∙ is.fit.at.phase;
     };
+    running = ap (λ (c : ControllerState). c.phase) does.controller ∙ is.fit.running;
   };
   fits = is.fits;
   planned = λ k first last. subst (λ (c : ControllerState). IsPlanned s k plan (pair_of c k)) (sym does.controller) (is.planned k first last);

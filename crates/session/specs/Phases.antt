@@ -8,6 +8,7 @@ use Rattle.nvm_model.specs.Medium.{MediumState}
 use Rattle.nvm_model.specs.ScriptText.{IsHead}
 use Rattle.nvm_blocks.specs.Namespace.{media_of}
 use Rattle.hall.specs.Plan.{PlanState, pieces_of}
+use Rattle.controller.specs.declared.controller.Phase.TheVariants.{Running}
 use Rattle.controller.specs.Pair.{PairState}
 use Rattle.nvm_model.specs.Run.{Here, IsPiece, PieceCalled, piece_line}
 use Rattle.session.specs.declared.lane_run.LaneRun.{LaneRun}
@@ -17,11 +18,12 @@ use Rattle.session.specs.Place.{AreQuiet, AreRunsOf, IsPlaceOf, PlaceState, Stan
 
 -- The phases of a turn: all lanes' plans, then their pieces, then their posts.
 
--- runs and a place of a script, at any point of a turn
+-- runs and a place of a script whose controller runs, at any point of a turn
 pub record Fit {M : Type 0} (s : Script) (runs : List LaneRun) (place : PlaceState M) : Type 0 where
   pub head : IsHead s.head
   pub own : AreRunsOf s runs
   pub at : IsPlaceOf s place
+  pub running : place.controller.phase ≡ Running
 
 -- a plan with room for the pieces of the largest turn
 pub record FitPlan (s : Script) (plan : PlanState) : Type 0 where

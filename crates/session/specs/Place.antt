@@ -1,4 +1,4 @@
-use Rattle.std.specs.Prelude.{◌≡◌, ℕ, ◌-◌, ◌*◌, ◌+◌, ◌≤◌, Bool, List, [], ◌∷◌, length, map, slice_index_or}
+use Rattle.std.specs.Prelude.{◌≡◌, ◌≢◌, ℕ, ◌-◌, ◌*◌, ◌+◌, ◌≤◌, All, Bool, List, [], ◌∷◌, length, map, slice_index_or}
 use Rattle.nvm_model.specs.declared.script.Script.{Script}
 use Rattle.nvm_model.specs.Ring.{places_between}
 use Rattle.nvm_model.specs.ScriptText.{IsScript}
@@ -42,7 +42,13 @@ pub record IsPlaceOf {M : Type 0} (s : Script) (place : PlaceState M) : Type 0 w
   pub windows : HaveWindows s place.windows
   pub pairs : length place.controller.pairs ≡ s.head.lanes
   pub burst : place.controller.burst ≡ s.head.burst
-  pub phase : place.controller.phase ≡ Running
+
+-- and at which a controller can go on: it waits for a state, and no command is under way
+pub record IsWaiting {M : Type 0} (s : Script) (place : PlaceState M) : Type 0 where
+  pub at : IsPlaceOf s place
+  pub waiting : place.controller.phase ≢ Running
+  pub quiet : All (λ (p : PairState). p.commands ≡ []) place.controller.pairs
+  pub fed : place.controller.fed.lanes ≡ length place.controller.pairs
 
 -- the runs of its lanes
 pub record AreRunsOf (s : Script) (runs : List LaneRun) : Type 0 where
@@ -66,11 +72,12 @@ pub record StandsOn {M : Type 0} (s : Script) (m : Machine M) (h : Here M) : Typ
   pub media : h.media ≡ media_of m.place.namespace
   pub words : HasWords s h.drawn m.order
 
--- a machine between two turns
+-- a machine between two turns, whose controller runs
 pub record IsReady {M : Type 0} (s : Script) (m : Machine M) : Type 0 where
   pub script : IsScript s
   pub runs : AreRunsOf s m.runs
   pub place : IsPlaceOf s m.place
+  pub running : m.place.controller.phase ≡ Running
   pub mix : m.order.mix ≡ s.head.mix
   pub quiet : AreQuiet s m.runs m.place.controller
   pub stood : Here M

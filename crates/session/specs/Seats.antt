@@ -11,6 +11,7 @@ use Rattle.nvm_model.specs.World.{Lane}
 use Rattle.nvm_blocks.specs.Namespace.{IsForNamespace, NamespaceState, block_count, media_of, rooms_of}
 use Rattle.nvm_blocks.specs.Work.{IsSameButData}
 use Rattle.guest_ram.specs.Window.{WindowState, data_pages, no_window}
+use Rattle.controller.specs.declared.controller.Phase.TheVariants.{Running}
 use Rattle.controller.specs.Pair.{pair_of}
 use Rattle.session.specs.declared.lane_run.LaneRun.{LaneRun}
 use Rattle.session.specs.LaneParts.{IsSameButPair}
@@ -31,9 +32,10 @@ pub record HasSeat {M : Type 0} (s : Script) (run : LaneRun) (place : PlaceState
   pub own : IsRunOf s run.script.lane run
   pub at : IsPlaceOf s place
 
--- where no command of the lane is under way
+-- where the controller runs, and no command of the lane is under way
 pub record MayPlan {M : Type 0} (s : Script) (run : LaneRun) (place : PlaceState M) : Type 0 where
   pub seat : HasSeat s run place
+  pub running : place.controller.phase ≡ Running
   pub commands : (pair_of place.controller run.script.lane).commands ≡ []
   pub results : run.results.items ≡ []
 

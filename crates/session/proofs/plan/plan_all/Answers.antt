@@ -26,6 +26,7 @@ plan-requires-clause-may g c =
     let is = seat_at c.loop-at.at run c.loop-at.invariant.fit (omega arith) c.index_mut.ensures.value in
     record {
       seat = is.0;
+      running = c.loop-at.invariant.fit.running;
       commands = c.loop-at.invariant.commands k is.0.there.0 is.0.there.1 (omega (arith, is.1));
       results = run_here c.loop-at.runs.items (λ (r : LaneRun). r.results.items ≡ []) c.loop-at.at k run is.1 c.index_mut.ensures.value (c.loop-at.invariant.none k run is.0.there.0 is.0.there.1);
     }

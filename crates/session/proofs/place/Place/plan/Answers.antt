@@ -58,6 +58,6 @@ plan_lane-requires-clause-may g c =
       head = may.seat.head;
       high = may.seat.there.1;
       free = record { seat = seat; commands = may.commands; results = may.results };
-      phase = at.phase;
+      phase = may.running;
       burst = at.burst;
     }
