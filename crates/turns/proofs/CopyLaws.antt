@@ -4,18 +4,26 @@ use Rattle.std.specs.Option.{IfSome}
 use Rattle.std.proofs.lemmas.List.{length-map, length-set, take_all, take_more, take_more_set}
 use Rattle.std.proofs.lemmas.List.Elements.{All-map}
 use Rattle.nvm_model.specs.declared.script.Head.{Head}
+use Rattle.nvm_model.specs.declared.script.Script.{Script}
 use Rattle.nvm_model.specs.declared.trace.Step.{Step}
 use Rattle.nvm_model.specs.Chain.{Chain}
-use Rattle.nvm_model.specs.Medium.{At, IsAt, MediumState, told_in}
+use Rattle.nvm_model.specs.Medium.{At, IsAt, MediumState, marked, marks_at, told_in}
 use Rattle.nvm_model.specs.Piece.{block_at}
 use Rattle.nvm_model.proofs.MediaLemmas.{length_joined}
-use Rattle.nvm_model.specs.Run.{AllCopied, CopiesAll, Copy, CopyEnd, gets_of, puts_of}
+use Rattle.nvm_model.specs.Run.{AllCopied, CopiesAll, Copy, CopyEnd, all_blocks, gets_of, left_calls, media_count, puts_of, taken_calls}
 use Rattle.nvm_model.specs.Run.CopyEnd.{Copied, NotRead, NotWritten}
 use Rattle.nvm_model.specs.Told.{Tell}
 use Rattle.turns.proofs.MediaLaws.{the_copy}
 use Rattle.turns.proofs.PieceLaws.{Blocks, Flat, calls_told, place_is}
 
 -- Copies over media that tell their blocks: where all were made both sides hold the same.
+
+-- a chain over two lists of labels is one after another
+pub chain_split : {S A : Type 0} (R : S → A → S → Type 0) (front back : List A) (x z : S) → Chain R x (front ++ back) z → (y : S) × Chain R x front y × Chain R y back z
+chain_split R [] back x z c = (x, refl, c)
+chain_split R (a ∷ front) back x z c =
+    let rest = chain_split R front back c.0 z c.2 in
+    (rest.0, (c.0, c.1, rest.1), rest.2)
 
 -- how many blocks are told
 pub told_length : {M I : Type 0} (state : M → MediumState I) (h : Head) (media : List M) (blocks : Blocks) → Tell state h media blocks → length blocks ≡ h.blocks
@@ -36,11 +44,25 @@ gets_stay : (size : ℕ) (copies : List Copy) (x y : Blocks) → Chain (Flat siz
 gets_stay size [] x y c = c
 gets_stay size (c ∷ copies) x y h = gets_stay size copies x y (get_stays size c.block c.bytes c.ended (flat_map (gets_of size) copies) x y h)
 
+-- Marks do, too.
+
+marks_stay : (size n : ℕ) (shelves : List ℕ) (x y : Blocks) → Chain (Flat size) x (map (λ (i : ℕ). record { shelf = i; call = marked n }) shelves) y → y ≡ x
+marks_stay size n [] x y c = c
+marks_stay size n (i ∷ shelves) x y c = marks_stay size n shelves c.0 y c.2 ∙ c.1.new_is
+
+-- calls between marks are the same without them
+unmarked : (size count : ℕ) (calls : List At) (x y : Blocks) → Chain (Flat size) x (marks_at count 1 ++ (calls ++ marks_at count 2)) y → Chain (Flat size) x calls y
+unmarked size count calls x y c =
+    let first = chain_split (Flat size) (marks_at count 1) (calls ++ marks_at count 2) x y c in
+    let last = chain_split (Flat size) calls (marks_at count 2) first.0 y first.2 in
+    subst (λ (a : Blocks). Chain (Flat size) a calls y) (marks_stay size 1 (range_with_len 0 count) x first.0 first.1)
+    (subst (λ (b : Blocks). Chain (Flat size) first.0 calls b) (sym (marks_stay size 2 (range_with_len 0 count) last.0 y last.2)) last.1)
+
 -- the side that is left tells what it told
-pub gets_told : {M I : Type 0} (state : M → MediumState I) (moves : I → Step → Bool → I → Type 0) (h : Head) (copies : List Copy) (old new : List M) (x : Blocks) → Chain (IsAt state moves) old (flat_map (gets_of h.shelf) copies) new → Tell state h old x → Tell state h new x
-gets_told {M} state moves h copies old new x c t =
-    let goes = calls_told state moves h old (flat_map (gets_of h.shelf) copies) new x c t in
-    subst (λ (y : Blocks). Tell state h new y) (gets_stay h.shelf copies x goes.0 goes.2) goes.1
+pub gets_told : {M I : Type 0} (state : M → MediumState I) (moves : I → Step → Bool → I → Type 0) (s : Script) (copies : List Copy) (old new : List M) (x : Blocks) → Chain (IsAt state moves) old (left_calls s copies) new → Tell state s.head old x → Tell state s.head new x
+gets_told {M} state moves s copies old new x c t =
+    let goes = calls_told state moves s.head old (left_calls s copies) new x c t in
+    subst (λ (y : Blocks). Tell state s.head new y) (gets_stay s.head.shelf copies x goes.0 (unmarked s.head.shelf (media_count s) (flat_map (gets_of s.head.shelf) copies) x goes.0 goes.2)) goes.1
 
 -- Puts bring them.
 
@@ -92,12 +114,14 @@ same_blocks : (n : ℕ) (from to : Blocks) → length from ≡ n → length to �
 same_blocks n from to from_size to_size same = sym (take_all n to (omega (arith, to_size))) ∙ same ∙ take_all n from (omega (arith, from_size))
 
 -- where every block was copied, the other side tells the same
-pub puts_told : {M I : Type 0} (state : M → MediumState I) (moves : I → Step → Bool → I → Type 0) (h : Head) (copies : List Copy) (from to left new : List M) (x z : Blocks) → CopiesAll (range_with_len 0 h.blocks) copies →
-    Chain (IsAt state moves) from (flat_map (gets_of h.shelf) copies) left → Chain (IsAt state moves) to (flat_map (puts_of h.shelf) copies) new → Tell state h from x → Tell state h to z → Tell state h new x
-puts_told {M} state moves h copies from to left new x z all gets puts t u =
-    let got = calls_told state moves h from (flat_map (gets_of h.shelf) copies) left x gets t in
-    let put = calls_told state moves h to (flat_map (puts_of h.shelf) copies) new z puts u in
-    let bring = puts_bring h.shelf 0 h.blocks copies x z got.0 put.0 all.each all.copied got.2 put.2 refl in
+pub puts_told : {M I : Type 0} (state : M → MediumState I) (moves : I → Step → Bool → I → Type 0) (s : Script) (copies : List Copy) (from to left new : List M) (x z : Blocks) → CopiesAll (all_blocks s) copies →
+    Chain (IsAt state moves) from (left_calls s copies) left → Chain (IsAt state moves) to (taken_calls s copies) new → Tell state s.head from x → Tell state s.head to z → Tell state s.head new x
+puts_told {M} state moves s copies from to left new x z all gets puts t u =
+    let h = s.head in
+    let got = calls_told state moves h from (left_calls s copies) left x gets t in
+    let put = calls_told state moves h to (taken_calls s copies) new z puts u in
+    let bring = puts_bring h.shelf 0 h.blocks copies x z got.0 put.0 all.each all.copied
+    (unmarked h.shelf (media_count s) (flat_map (gets_of h.shelf) copies) x got.0 got.2) (unmarked h.shelf (media_count s) (flat_map (puts_of h.shelf) copies) z put.0 put.2) refl in
     let none : 0 + h.blocks ≡ h.blocks = omega arith in
     let same : put.0 ≡ x = same_blocks h.blocks x put.0 (told_length state h from x t) (bring.1 ∙ told_length state h to z u) (subst (λ (n : ℕ). take n put.0 ≡ take n x) none bring.0) in
     subst (λ (y : Blocks). Tell state h new y) same put.1

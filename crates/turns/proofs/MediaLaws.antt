@@ -1,5 +1,5 @@
 use Rattle.std.proofs.Common.{◌≡◌, ℕ, ◌+◌, ◌%◌, ◌/◌, Bool, cond, List, [], ◌∷◌, ◌++◌, length, map, get_or, refl, sym, ap, subst, ◌∙◌, arith}
-use Rattle.std.specs.List.{flat_map}
+use Rattle.std.specs.List.{flat_map, range_with_len}
 use Rattle.std.proofs.lemmas.Grind.{flat_map-append}
 use Rattle.std.proofs.lemmas.List.{length-set}
 use Rattle.std.proofs.lemmas.List.Elements.{All-set}
@@ -9,10 +9,10 @@ use Rattle.nvm_model.specs.declared.script.Script.{Script}
 use Rattle.nvm_model.specs.declared.trace.Step.{Step}
 use Rattle.nvm_model.specs.Chain.{Chain}
 use Rattle.nvm_model.specs.History.{faults_shown, is_faulted}
-use Rattle.nvm_model.specs.Medium.{At, Call, HasSize, HaveSize, IsAt, MediumState, all_at, failures_in, faults_in}
+use Rattle.nvm_model.specs.Medium.{At, Call, HasSize, HaveSize, IsAt, MediumState, all_at, failures_in, faults_in, marked, marks_at}
 use Rattle.nvm_model.proofs.ChainLemmas.{chain_keeps, chain_more, chain_one}
 use Rattle.nvm_model.proofs.MediaLemmas.{call_size, counts_rise, failures_of}
-use Rattle.nvm_model.specs.Run.{AllCopied, CopiesUpTo, Copy, CopyEnd, Here, IsPiece, IsStage, IsTurn, PieceCalled, Snapshot, Stage, Task, TurnDone, all_blocks, by_side, calls_at, gets_of, here, lines_in, lines_of, media_at, opposite, part_of, piece_line, puts_of, turn_calls, turn_lines}
+use Rattle.nvm_model.specs.Run.{AllCopied, CopiesUpTo, Copy, CopyEnd, Here, IsPiece, IsStage, IsTurn, PieceCalled, Snapshot, Stage, Task, TurnDone, all_blocks, by_side, calls_at, gets_of, here, left_calls, lines_in, lines_of, media_at, media_count, opposite, part_of, piece_line, puts_of, taken_calls, turn_calls, turn_lines}
 use Rattle.nvm_model.specs.Run.CopyEnd.{Copied, NotRead, NotWritten}
 use Rattle.nvm_model.specs.declared.run.Side.{Side}
 use Rattle.nvm_model.specs.declared.run.Side.TheVariants.{Source, Destination}
@@ -63,15 +63,15 @@ stage_media {M} state moves who x (Turn side t) y r =
     subst (λ (k : Side). Chain (IsAt state moves) (media_at who x) (by_side who k (turn_calls t) []) (media_at who y)) (sym r.stands)
     (side_after state moves who (media_at who x) (by_side who x.side (turn_calls t) []) y _ r.after both)
 stage_media {M} state moves who x (Resume side copies) y r =
-    let gets = flat_map (gets_of x.task.script.head.shelf) copies in
-    let puts = flat_map (puts_of x.task.script.head.shelf) copies in
+    let gets = left_calls x.task.script copies in
+    let puts = taken_calls x.task.script copies in
     let both = by_chain state moves who x.side x.at x.other gets puts y.other y.at r.gets r.puts in
     subst (λ (k : Side). Chain (IsAt state moves) (media_at who x) (by_side who k gets puts) (media_at who y)) (sym r.stood)
     (side_after state moves who (media_at who x) (by_side who x.side gets puts) y _ r.after
     (subst (λ (media : List M). Chain (IsAt state moves) (media_at who x) (by_side who x.side gets puts) media) (sym (by_opposite who x.side y.at y.other)) both))
 stage_media {M} state moves who x (GiveUp side copies) y r =
-    let gets = flat_map (gets_of x.task.script.head.shelf) copies in
-    let puts = flat_map (puts_of x.task.script.head.shelf) copies in
+    let gets = left_calls x.task.script copies in
+    let puts = taken_calls x.task.script copies in
     let both = by_chain state moves who x.side x.at x.other gets puts y.at y.other r.gets r.puts in
     subst (λ (k : Side). Chain (IsAt state moves) (media_at who x) (by_side who k gets puts) (media_at who y)) (sym r.stood)
     (side_after state moves who (media_at who x) (by_side who x.side gets puts) y _ r.after both)
@@ -186,6 +186,19 @@ one_failed shelf blocks copies h =
     let puts = ap (λ (cs : List Copy). failed_in (flat_map (puts_of shelf) cs)) h.copies_are ∙ ap failed_in (flat_map-append (puts_of shelf) h.good (c ∷ [])) in
     omega (arith, gets, puts, good.0, good.1, bad, failed_more (flat_map (gets_of shelf) h.good) (gets_of shelf c ++ []), failed_more (flat_map (puts_of shelf) h.good) (puts_of shelf c ++ []), failed_more (gets_of shelf c) [], failed_more (puts_of shelf c) [])
 
+-- nor does a mark
+marks_failed : (n : ℕ) (shelves : List ℕ) → failed_in (map (λ (i : ℕ). record { shelf = i; call = marked n }) shelves) ≡ 0
+marks_failed n [] = refl
+marks_failed n (i ∷ shelves) = omega (arith, marks_failed n shelves)
+
+between_marks : (count : ℕ) (calls : List At) → failed_in (marks_at count 1 ++ (calls ++ marks_at count 2)) ≡ failed_in calls
+between_marks count calls =
+    let shelves = range_with_len 0 count in
+    omega (arith, failed_more (marks_at count 1) (calls ++ marks_at count 2), failed_more calls (marks_at count 2), marks_failed 1 shelves, marks_failed 2 shelves)
+
+marked_failed : (s : Script) (copies : List Copy) → (failed_in (left_calls s copies) ≡ failed_in (flat_map (gets_of s.head.shelf) copies)) × (failed_in (taken_calls s copies) ≡ failed_in (flat_map (puts_of s.head.shelf) copies))
+marked_failed s copies = (between_marks (media_count s) (flat_map (gets_of s.head.shelf) copies), between_marks (media_count s) (flat_map (puts_of s.head.shelf) copies))
+
 both_sides : (side : Side) (xs ys : List At) → failed_in (by_side Source side xs ys) + failed_in (by_side Destination side xs ys) ≡ failed_in xs + failed_in ys
 both_sides Source xs ys = refl
 both_sides Destination xs ys = omega arith
@@ -197,12 +210,14 @@ stage_failed state moves x Begin y r = refl
 stage_failed state moves x End y r = refl
 stage_failed state moves x (Turn side t) y r = omega (arith, turn_failed state moves x.task (here x) t (here y) r.turn, both_sides side (turn_calls t) [])
 stage_failed state moves x (Resume side copies) y r =
-    let size = x.task.script.head.shelf in
-    let none = all_copied size copies r.copies_all.copied in
-    omega (arith, none.0, none.1, both_sides side (flat_map (gets_of size) copies) (flat_map (puts_of size) copies))
+    let s = x.task.script in
+    let none = all_copied s.head.shelf copies r.copies_all.copied in
+    let marked = marked_failed s copies in
+    omega (arith, none.0, none.1, marked.0, marked.1, both_sides side (left_calls s copies) (taken_calls s copies))
 stage_failed state moves x (GiveUp side copies) y r =
-    let size = x.task.script.head.shelf in
-    omega (arith, one_failed size (all_blocks x.task.script) copies r.copies_stop, both_sides side (flat_map (gets_of size) copies) (flat_map (puts_of size) copies))
+    let s = x.task.script in
+    let marked = marked_failed s copies in
+    omega (arith, one_failed s.head.shelf (all_blocks s) copies r.copies_stop, marked.0, marked.1, both_sides side (left_calls s copies) (taken_calls s copies))
 
 run_failed : {M I : Type 0} (state : M → MediumState I) (moves : I → Step → Bool → I → Type 0) (s : Script) (old : Snapshot M) (stages : List Stage) (new : Snapshot M) → old.task.script ≡ s → Chain (IsStage state moves) old stages new →
     faults_shown (lines_in s stages) ≡ failed_in (flat_map (calls_at s Source) stages) + failed_in (flat_map (calls_at s Destination) stages)

@@ -1,5 +1,5 @@
 use Rattle.std.proofs.Common.{◌≡◌, ◌⊎◌, ℕ, ◌+◌, ◌<◌, inl, inr, ⊎_elim, Bool, true, false, List, [], ◌∷◌, ◌++◌, Option, Some, None, length, refl, sym, ap, subst, ◌∙◌, append_assoc, append-nil, arith}
-use Rattle.std.specs.List.{flat_map, range_with_len}
+use Rattle.std.specs.List.{flat_map}
 use Rattle.std.proofs.lemmas.Bool.{cases_eq}
 use Rattle.std.proofs.lemmas.List.{length-append}
 use Rattle.nvm_model.specs.declared.line.Line.{Line}
@@ -16,7 +16,7 @@ use Rattle.nvm_model.specs.declared.run.RunPhase.{RunPhase}
 use Rattle.nvm_model.specs.declared.run.RunPhase.TheVariants.{New, Running, Suspended, Over}
 use Rattle.nvm_model.specs.declared.run.Side.{Side}
 use Rattle.nvm_model.specs.declared.run.Side.TheVariants.{Source, Destination}
-use Rattle.nvm_model.specs.Run.{AreComplete, CopiesAll, Copy, IsBegin, IsDue, IsEnd, IsGiveUp, IsResume, IsStage, IsTitle, IsTurn, SinkState, Snapshot, Stage, TakesTurn, Task, TurnDone, among, gets_of, here, lines_in, lines_of, memory_of, opposite, puts_of, start_lanes, turn_lines}
+use Rattle.nvm_model.specs.Run.{AreComplete, CopiesAll, Copy, IsBegin, IsDue, IsEnd, IsGiveUp, IsResume, IsStage, IsTitle, IsTurn, SinkState, Snapshot, Stage, TakesTurn, Task, TurnDone, all_blocks, among, here, left_calls, lines_in, lines_of, memory_of, opposite, start_lanes, taken_calls, turn_lines}
 use Rattle.nvm_model.specs.Run.Stage.{Title, Turn, Begin, Resume, GiveUp, End}
 use Rattle.nvm_model.specs.Told.{Tell, Tells, serial}
 use Rattle.turns.proofs.CopyLaws.{gets_told, puts_told}
@@ -284,9 +284,9 @@ resume {M} {I} {state} {moves} {s} {blocks} {old} {x} {side} {copies} {y} {lines
     let f = u.turned in
     let task = f.stands.task in
     let size = s.head.shelf in
-    let all = subst (λ (k : Task). CopiesAll (range_with_len 0 k.script.head.blocks) copies) task r.copies_all in
-    let gets = subst (λ (k : Task). Chain (IsAt state moves) x.at (flat_map (gets_of k.script.head.shelf) copies) y.other) task r.gets in
-    let puts = subst (λ (k : Task). Chain (IsAt state moves) x.other (flat_map (puts_of k.script.head.shelf) copies) y.at) task r.puts in
+    let all = subst (λ (k : Task). CopiesAll (all_blocks k.script) copies) task r.copies_all in
+    let gets = subst (λ (k : Task). Chain (IsAt state moves) x.at (left_calls k.script copies) y.other) task r.gets in
+    let puts = subst (λ (k : Task). Chain (IsAt state moves) x.other (taken_calls k.script copies) y.at) task r.puts in
     let others = subst (λ (media : List M). Tell state s.head media h.others) (sym f.other) h.destination in
     subst (λ (z : Snapshot M). (v : Tried state s blocks z (lines ++ lines_of s (Resume side copies))) × (v.way ≡ Moved) × (v.world ≡ v.mid)) (sym r.after) (
       record {
@@ -302,10 +302,10 @@ resume {M} {I} {state} {moves} {s} {blocks} {old} {x} {side} {copies} {y} {lines
         world = f.world;
         are_after = refl;
         drawn = omega (arith, f.drawn);
-        stands = record { task = task; lanes = f.stands.lanes; tells = puts_told state moves s.head copies x.at x.other y.other y.at f.world.blocks h.others all gets puts f.stands.tells others };
+        stands = record { task = task; lanes = f.stands.lanes; tells = puts_told state moves s copies x.at x.other y.other y.at f.world.blocks h.others all gets puts f.stands.tells others };
         side = ap opposite f.side;
         behind = (
-          gets_told state moves s.head copies x.at y.other f.world.blocks gets f.stands.tells,
+          gets_told state moves s copies x.at y.other f.world.blocks gets f.stands.tells,
           ap (λ (k : Task). memory_of k.script x.lanes) task ∙ ap (memory_of s) f.stands.lanes,
         );
         lines_are = ap (λ (ls : List Line). ls ++ lines_of s (Resume side copies)) u.lines_are
@@ -319,7 +319,7 @@ pub give_up : {M I : Type 0} {state : M → MediumState I} {moves : I → Step �
     Tells state s blocks old → IsGiveUp state moves x side copies y → Begun state s blocks old x lines → (v : Tried state s blocks y (lines ++ line.GiveUp ∷ [])) × (v.way ≡ GivenUp)
 give_up {M} {I} {state} {moves} {s} {blocks} {old} {x} {side} {copies} {y} {lines} h r u =
     let f = u.turned in
-    let gets = subst (λ (k : Task). Chain (IsAt state moves) x.at (flat_map (gets_of k.script.head.shelf) copies) y.at) f.stands.task r.gets in
+    let gets = subst (λ (k : Task). Chain (IsAt state moves) x.at (left_calls k.script copies) y.at) f.stands.task r.gets in
     subst (λ (z : Snapshot M). (v : Tried state s blocks z (lines ++ line.GiveUp ∷ [])) × (v.way ≡ GivenUp)) (sym r.after) (
       record {
         way = GivenUp;
@@ -334,7 +334,7 @@ give_up {M} {I} {state} {moves} {s} {blocks} {old} {x} {side} {copies} {y} {line
         world = f.world;
         are_after = refl;
         drawn = omega (arith, f.drawn);
-        stands = record { task = f.stands.task; lanes = f.stands.lanes; tells = gets_told state moves s.head copies x.at y.at f.world.blocks gets f.stands.tells };
+        stands = record { task = f.stands.task; lanes = f.stands.lanes; tells = gets_told state moves s copies x.at y.at f.world.blocks gets f.stands.tells };
         side = f.side;
         behind = f.left ∙ ap (λ (t : Snapshot M). t.left) h.start;
         lines_are = ap (λ (ls : List Line). ls ++ line.GiveUp ∷ []) u.lines_are
