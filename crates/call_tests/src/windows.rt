@@ -88,10 +88,10 @@ fn copies_a_page(rt: HostRuntime) -> Result<(), Fail> {
     write_in_host(&mut from, 1);
     assert!(rt; from.ram.page_count() == 7);
     assert!(rt; to.page_count() == 7);
-    from.ram.copy_page(4, &mut to);
+    to.put_page(4, from.ram.page(4));
     let two = LaneNo::new(2).ok_or("lane 2")?;
     assert!(rt; first_byte(to.window(two), 0) == Some(0));
-    from.ram.copy_page(5, &mut to);
+    to.put_page(5, from.ram.page(5));
     assert!(rt; first_byte(to.window(two), 0) == Some(7));
     assert!(rt; first_byte(to.window(two), 1) == Some(0));
     Ok(())

@@ -43,33 +43,32 @@ shape-set ws i j w bytes there lane pages =
 lent_back : (ws : List WindowState) (i : ℕ) (w : WindowState) → take (length ws) (set ws i w ++ drop (length (set ws i w)) ws) ≡ set ws i w
 lent_back ws i w = take_at (set ws i w) (drop (length (set ws i w)) ws) (length ws) (length-set ws i w)
 
--- the window w, which was v, has the page of another memory's window u
-pub record HasCopy (from to : List WindowState) (page i j k l : ℕ) (u v w : WindowState) (bytes : List ℕ) : Type 0 where
-  pub source : IsPlace from page i j
-  pub target : IsPlace to page k l
-  pub source_is : u ≡ get_or from i u
-  pub bytes_is : bytes ≡ page_at u.pages j
-  pub target_is : v ≡ get_or to k v
+-- a page that is read in its window
+pub page-read : (ws : List WindowState) (page i j : ℕ) (u : WindowState) → IsPlace ws page i j → u ≡ get_or ws i u → page_at u.pages j ≡ page_at (all_pages ws) page
+page-read ws page i j u place is =
+    let same : u ≡ get_or ws i no_window = is ∙ get_or_default ws i u no_window place.there in
+    ap (λ (x : WindowState). page_at x.pages j) same ∙ sym (page_at-all_pages ws page i j place)
+
+-- the window w, which was v, has these bytes in its page
+pub record HasPut (ws : List WindowState) (page i j : ℕ) (v w : WindowState) (bytes : List ℕ) : Type 0 where
+  pub place : IsPlace ws page i j
+  pub is : v ≡ get_or ws i v
   pub lane : w.lane ≡ v.lane
-  pub pages : w.pages ≡ set v.pages l bytes
+  pub pages : w.pages ≡ set v.pages j bytes
 
-pub pages-copied : (from to : List WindowState) (page i j k l : ℕ) (u v w : WindowState) (bytes : List ℕ) → HasCopy from to page i j k l u v w bytes
-    → all_pages (take (length to) (set to k w ++ drop (length (set to k w)) to)) ≡ set (all_pages to) page (page_at (all_pages from) page)
-pages-copied from to page i j k l u v w bytes h =
-    let source : u ≡ get_or from i no_window = h.source_is ∙ get_or_default from i u no_window h.source.there in
-    let target : v ≡ get_or to k no_window = h.target_is ∙ get_or_default to k v no_window h.target.there in
-    let put : w.pages ≡ set (get_or to k no_window).pages l bytes = cc in
-    let same : page_at (all_pages from) page ≡ bytes =
-    page_at-all_pages from page i j h.source ∙ ap (λ (x : WindowState). page_at x.pages j) (sym source) ∙ sym h.bytes_is in
-    ap all_pages (lent_back to k w)
-    ∙ all_pages-set to k l w bytes h.target.there h.target.within put
-    ∙ ap (λ n. set (all_pages to) n bytes) (sym h.target.number)
-    ∙ ap (set (all_pages to) page) (sym same)
+pub pages-put : (ws : List WindowState) (page i j : ℕ) (v w : WindowState) (bytes : List ℕ) → HasPut ws page i j v w bytes
+    → all_pages (take (length ws) (set ws i w ++ drop (length (set ws i w)) ws)) ≡ set (all_pages ws) page bytes
+pages-put ws page i j v w bytes h =
+    let was : v ≡ get_or ws i no_window = h.is ∙ get_or_default ws i v no_window h.place.there in
+    let put : w.pages ≡ set (get_or ws i no_window).pages j bytes = cc in
+    ap all_pages (lent_back ws i w)
+    ∙ all_pages-set ws i j w bytes h.place.there h.place.within put
+    ∙ ap (λ n. set (all_pages ws) n bytes) (sym h.place.number)
 
-pub shape-copied : (from to : List WindowState) (page i j k l : ℕ) (u v w : WindowState) (bytes : List ℕ) → HasCopy from to page i j k l u v w bytes
-    → shape (take (length to) (set to k w ++ drop (length (set to k w)) to)) ≡ shape to
-shape-copied from to page i j k l u v w bytes h =
-    let target : v ≡ get_or to k no_window = h.target_is ∙ get_or_default to k v no_window h.target.there in
-    let lane : w.lane ≡ (get_or to k no_window).lane = cc in
-    let put : w.pages ≡ set (get_or to k no_window).pages l bytes = cc in
-    ap shape (lent_back to k w) ∙ shape-set to k l w bytes h.target.there lane put
+pub shape-put : (ws : List WindowState) (page i j : ℕ) (v w : WindowState) (bytes : List ℕ) → HasPut ws page i j v w bytes
+    → shape (take (length ws) (set ws i w ++ drop (length (set ws i w)) ws)) ≡ shape ws
+shape-put ws page i j v w bytes h =
+    let was : v ≡ get_or ws i no_window = h.is ∙ get_or_default ws i v no_window h.place.there in
+    let lane : w.lane ≡ (get_or ws i no_window).lane = cc in
+    let put : w.pages ≡ set (get_or ws i no_window).pages j bytes = cc in
+    ap shape (lent_back ws i w) ∙ shape-set ws i j w bytes h.place.there lane put

@@ -94,21 +94,26 @@ impl Ram {
         count
     }
 
-    /// Copies a window page to the page of the same number of another memory. Numbers count over all lanes: the window
-    /// pages of lane 1, then those of lane 2, and so on, from 0. Both have the page.
-    pub fn copy_page(&self, page: u32, to: &mut Ram)
-        requires from { page < length (all_pages self.now) }
-        requires to { page < length (all_pages to.old) }
-        ensures pages { all_pages to.new
-            ≡ slice_set (all_pages to.old) page (page_at (all_pages self.now) page) }
-        ensures shape { shape to.new ≡ shape to.old }
+    /// The bytes of a window page, which is there. Numbers count over all lanes: the window pages of lane 1, then those of
+    /// lane 2, and so on, from 0.
+    pub fn page(&self, page: u32) -> &[u8; 4096]
+        requires { page < length (all_pages self.now) }
+        ensures { result.now ≡ page_at (all_pages self.now) page }
     {
         let windows = self.as_slice();
-        let source = place_of(windows, page);
-        let target = place_of(to.as_slice(), page);
-        let bytes = windows[source.window].page(source.page);
-        let window = &mut to.windows()[target.window];
-        window.put_page(target.page, bytes);
+        let place = place_of(windows, page);
+        windows[place.window].page(place.page)
+    }
+
+    /// A window page, which is there, becomes these bytes. Numbers count as in `page`.
+    pub fn put_page(&mut self, page: u32, bytes: &[u8; 4096])
+        requires { page < length (all_pages self.old) }
+        ensures pages { all_pages self.new ≡ slice_set (all_pages self.old) page bytes.now }
+        ensures shape { shape self.new ≡ shape self.old }
+    {
+        let place = place_of(self.as_slice(), page);
+        let window = &mut self.windows()[place.window];
+        window.put_page(place.page, bytes);
     }
 
     // The windows, lane 1's first.

@@ -1,21 +1,18 @@
 use Rattle.std.specs.Prelude.{IfSome, OnErr, OnOk, is_err}
-use Rattle.std.proofs.Common.{◌≡◌, ℕ, ◌+◌, ◌/◌, ◌%◌, Bool, cond, List, [], ◌∷◌, Option, Some, None, Result, Ok, Err, length, set, refl, sym, ap, subst, ◌∙◌, ◌<◌, ◌≤◌, ◌++◌, All, get_or, get_or-set_same, length-set, arith}
+use Rattle.std.proofs.Common.{◌≡◌, ℕ, ◌+◌, ◌/◌, ◌%◌, Bool, cond, List, [], ◌∷◌, Option, Some, None, Result, Ok, Err, length, map, set, refl, sym, ap, subst, ◌∙◌, ◌<◌, ◌≤◌, ◌++◌, All, get_or, get_or-set_same, length-set, arith}
 use Rattle.std.proofs.Math.Nat.{div-lt_iff_lt-mul}
 use Rattle.std.proofs.lemmas.Nat.{div-add-mod'}
-use Rattle.std.proofs.lemmas.List.{length-map}
-use Rattle.mig_base.specs.Count.{HaveCause, NeverFall, RiseBy}
-use Rattle.nvm_model.specs.declared.piece.Piece.{Piece}
-use Rattle.nvm_model.specs.declared.piece.PieceResult.{PieceResult}
+use Rattle.std.specs.List.{range_with_len}
+use Rattle.std.proofs.lemmas.List.{get_or-map, length-map, map-set, set-get_or}
+use Rattle.mig_base.specs.Count.{HaveCause, RiseBy}
 use Rattle.nvm_model.specs.declared.piece.ShelfEntry.{ShelfEntry}
 use Rattle.nvm_model.specs.declared.trace.Step.{Step}
-use Rattle.nvm_model.specs.History.{is_faulted}
-use Rattle.nvm_model.specs.Medium.{At, Effect, MediumState, StayTold, flat_call, got, sent}
+use Rattle.nvm_model.specs.Chain.{Chain}
+use Rattle.nvm_model.specs.Medium.{At, Effect, IsAt, MediumState, StayTold, faults_in, flat_call, got, marked, marks_at, sent}
 use Rattle.nvm_model.specs.Piece.{block_at}
-use Rattle.nvm_model.specs.Trace.{piece_calls}
-use Rattle.nvm_model.proofs.MediaLemmas.{counts_rise, failures_of, flat_calls, piece_told, told_map}
-use Rattle.nvm_blocks.specs.Namespace.{HasAppliedIn, HasCalled, HasRoom, IsClearedAt, NamespaceState, block_count, entries_of, faults_of, media_of, rooms_of, told_of, with_entry}
+use Rattle.nvm_model.proofs.MediaLemmas.{counts_rise, flat_calls, told_map}
+use Rattle.nvm_blocks.specs.Namespace.{HasCalled, HasRoom, IsClearedAt, NamespaceState, block_count, entries_of, faults_of, media_of, rooms_of, told_of, with_entry}
 use Rattle.nvm_blocks.specs.ShelfState.{ShelfState}
-use Rattle.nvm_blocks.specs.Work.{HasToldEffect}
 
 -- What the calls of a namespace's media come to, for its told blocks and for its counts of failed calls.
 
@@ -23,22 +20,6 @@ use Rattle.nvm_blocks.specs.Work.{HasToldEffect}
 pub as_many_shelves : {M I : Type 0} {state : M → MediumState I} {moves : I → Step → Bool → I → Type 0} {n new : NamespaceState M} {calls : List At} → HasCalled state moves n calls new → length new.shelves ≡ length n.shelves
 as_many_shelves {M} {n = n} {new} h =
     sym (length-map new.shelves (λ (s : ShelfState M). s.room)) ∙ ap (λ (l : List ℕ). length l) h.rooms ∙ length-map n.shelves (λ (s : ShelfState M). s.room)
-
--- A piece.
-
-pub applied_told : {M I : Type 0} {state : M → MediumState I} {moves : I → Step → Bool → I → Type 0} {piece : Piece} {result : PieceResult} {n new : NamespaceState M} {memory new_memory : List (List ℕ)} →
-    HasAppliedIn state moves piece result n memory new new_memory → HasToldEffect piece piece.span.first result (told_of state n) memory (told_of state new) new_memory
-applied_told {state = state} {moves} {piece} {result} {n} {new} {memory} {new_memory} h =
-    let first : ℕ = piece.span.first in
-    subst (λ (k : ℕ). HasToldEffect piece k result (told_of state n) memory (told_of state new) new_memory) (div-add-mod' first n.shelf)
-    (piece_told state moves n.shelf (first / n.shelf) (first % n.shelf) piece h.moved result (media_of n) memory (media_of new) new_memory h.done h.called.made h.called.sizes)
-
-pub applied_counts : {M I : Type 0} {state : M → MediumState I} {moves : I → Step → Bool → I → Type 0} {piece : Piece} {result : PieceResult} {n new : NamespaceState M} {memory new_memory : List (List ℕ)} →
-    HasAppliedIn state moves piece result n memory new new_memory → NeverFall (faults_of state n) (faults_of state new) × RiseBy (cond (is_faulted result.outcome) 1 0) (faults_of state n) (faults_of state new)
-applied_counts {state = state} {moves} {piece} {result} {n} {new} {memory} h =
-    let first : ℕ = piece.span.first in
-    let counts = counts_rise state moves (media_of n) (first / n.shelf) (piece_calls piece (first % n.shelf) memory h.moved result.outcome) (media_of new) h.called.made in
-    (counts.0, subst (λ (k : ℕ). RiseBy k (faults_of state n) (faults_of state new)) (failures_of piece (first % n.shelf) memory h.moved result.outcome) counts.1)
 
 -- One call.
 
@@ -105,6 +86,33 @@ was_put {state = state} {n = n} {new} b bytes (Err x) h = record {
   kept = same_told _ (told_of state n) (told_of state new) (λ x y e. e.new_is) (call_told h);
   cause = call_counts (Err x) refl h;
 }
+
+-- A mark of all media.
+
+mark_counts : {M I : Type 0} (state : M → MediumState I) (moves : I → Step → Bool → I → Type 0) (n i : ℕ) (d : M) (old new : List M) → IsAt state moves old (record { shelf = i; call = marked n }) new → faults_in state new ≡ faults_in state old
+mark_counts {M} state moves n i d old new r =
+    let faults : M → ℕ = λ m. (state m).faults in
+    let one : faults (get_or new i d) ≡ get_or (map faults old) i 0 = (r.call d).uncounted ∙ sym (get_or-map faults old i d 0 r.there) in
+    ap (map faults) (r.others d) ∙ map-set faults old i (get_or new i d) ∙ ap (set (map faults old) i) one ∙ set-get_or (map faults old) i 0
+
+marks_count : {M I : Type 0} (state : M → MediumState I) (moves : I → Step → Bool → I → Type 0) (n : ℕ) (shelves : List ℕ) (old new : List M) → Chain (IsAt state moves) old (map (λ (i : ℕ). record { shelf = i; call = marked n }) shelves) new →
+    faults_in state new ≡ faults_in state old
+marks_count state moves n [] old new c = ap (faults_in state) c
+marks_count state moves n (i ∷ shelves) [] new c = absurd (omega (arith, c.1.there))
+marks_count state moves n (i ∷ shelves) (m ∷ old) new c = marks_count state moves n shelves c.0 new c.2 ∙ mark_counts state moves n i m (m ∷ old) c.0 c.1
+
+marks_stay : (size n : ℕ) (shelves : List ℕ) (x y : List (List ℕ)) → Chain (λ a (c : At) b. Effect a (flat_call size c) b) x (map (λ (i : ℕ). record { shelf = i; call = marked n }) shelves) y → y ≡ x
+marks_stay size n [] x y c = c
+marks_stay size n (i ∷ shelves) x y c = marks_stay size n shelves c.0 y c.2 ∙ c.1.new_is
+
+-- no block changed, and no count
+pub was_marked : {M I : Type 0} {state : M → MediumState I} {moves : I → Step → Bool → I → Type 0} {n new : NamespaceState M} (mark : ℕ) →
+    HasCalled state moves n (marks_at (length n.shelves) mark) new → (told_of state new ≡ told_of state n) × (faults_of state new ≡ faults_of state n)
+was_marked {state = state} {moves} {n} {new} mark h =
+    let shelves = range_with_len 0 (length n.shelves) in (
+      same_told _ (told_of state n) (told_of state new) (λ x y c. marks_stay n.shelf mark shelves x y c) (flat_calls state moves n.shelf (media_of n) (marks_at (length n.shelves) mark) (media_of new) h.made h.sizes),
+      marks_count state moves mark shelves (media_of n) (media_of new) h.made,
+    )
 
 -- Its shelves' entries.
 

@@ -3,20 +3,21 @@ use Rattle.std.proofs.Common.{◌≡◌, ℕ, zero, suc, ◌+◌, ◌-◌, ◌*�
 use Rattle.std.proofs.lemmas.Nat.{div-add-mod', div_below, mod_below}
 use Rattle.std.proofs.lemmas.List.{length-map, length-set, get_or-map, map-set, set-get_or}
 use Rattle.std.proofs.lemmas.List.Elements.{All-map}
+use Rattle.std.proofs.lemmas.List.FromFn.{map-range_with_len_more}
 use Rattle.mig_base.specs.declared.span.Span.{Span}
 use Rattle.nvm_model.specs.declared.piece.Piece.{Piece}
 use Rattle.nvm_model.specs.declared.piece.PieceResult.{PieceResult}
 use Rattle.nvm_model.specs.declared.piece.ShelfEntry.{ShelfEntry}
 use Rattle.nvm_model.specs.declared.trace.Step.{Step}
 use Rattle.nvm_model.specs.Chain.{Chain}
-use Rattle.nvm_model.specs.Medium.{Call, HasSize, HaveSize, IsAt, IsMade, MediumState, all_at}
+use Rattle.nvm_model.specs.Medium.{At, Call, HasSize, HaveSize, IsAt, IsMade, MediumState, all_at, marked, marks_at}
 use Rattle.nvm_model.specs.Shelf.{LiesIn, joined}
 use Rattle.nvm_model.specs.Trace.{piece_calls}
-use Rattle.nvm_model.proofs.ChainLemmas.{chain_keeps}
+use Rattle.nvm_model.proofs.ChainLemmas.{chain_keeps, chain_more}
 use Rattle.nvm_model.proofs.MediaLemmas.{AreSized, call_size, length_joined, made_at}
 use Rattle.nvm_blocks.specs.ShelfState.{ShelfState}
 use Rattle.nvm_blocks.specs.Namespace.{HasAppliedIn, HasCalled, IsClearedAt, IsForNamespace, IsNamespace, IsShelf, with_entry}
-use Rattle.nvm_blocks.specs.Shelves.{cleared}
+use Rattle.nvm_blocks.specs.Shelves.{AreMarked, cleared}
 use Rattle.nvm_blocks.specs.Work.{HasApplied, IsForShelf, IsSized}
 
 -- what is said of each element by its place stays where one is replaced
@@ -174,6 +175,36 @@ for_shelf state shelf shelves piece x pages h is_for is =
       few = is_for.few;
       within = (omega (arith, here.first, lies.0), omega (arith, here.first, here.size.size_is, lies.1));
       has_pages = is_for.has_pages;
+    }
+
+-- Marks, shelf after shelf.
+
+pub marked_none : {M I : Type 0} (state : M → MediumState I) (moves : I → Step → Bool → I → Type 0) (shelf n : ℕ) (shelves : List (ShelfState M)) → IsNamespace state shelf shelves → AreMarked state moves shelf n 0 shelves shelves
+marked_none state moves shelf n shelves h = record {
+  namespace = h;
+  count_is = refl;
+  called = record { sizes = have_sizes state shelf shelves h; made = refl; shelf = refl; rooms = refl };
+  entries = refl;
+}
+
+pub marked_more : {M I : Type 0} (state : M → MediumState I) (moves : I → Step → Bool → I → Type 0) (shelf n count : ℕ) (old shelves : List (ShelfState M)) (x new : ShelfState M) → AreMarked state moves shelf n count old shelves → count < length shelves → x ≡ get_or shelves count x →
+    IsMade state moves x.medium (marked n) new.medium → new ≡ record x { medium = new.medium } → AreMarked state moves shelf n (count + 1) old (set shelves count new)
+marked_more {M} state moves shelf n count old shelves x new h there is made rest =
+    let medium : ShelfState M → M = λ s. s.medium in
+    let called : IsCalled state moves (marked n ∷ []) x new = record { first = ap (λ (s : ShelfState M). s.first) rest; room = ap (λ (s : ShelfState M). s.room) rest; made = (new.medium, made, refl) } in
+    let one = shelf_called state moves shelf shelves count (marked n ∷ []) x new h.namespace there is called in
+    let after = map medium (set shelves count new) in
+    let all = chain_more (IsAt state moves) (map medium old) (marks_at count n) (map medium shelves) (all_at count (marked n ∷ [])) after h.called.made one.made in
+    record {
+      namespace = stays_namespace state moves shelf shelves count (marked n ∷ []) x new h.namespace there is called;
+      count_is = length-set shelves count new ∙ h.count_is;
+      called = record {
+        sizes = h.called.sizes;
+        made = subst (λ (calls : List At). Chain (IsAt state moves) (map medium old) calls after) (sym (map-range_with_len_more (λ (i : ℕ). record { shelf = i; call = marked n }) 0 count count (omega arith))) all;
+        shelf = refl;
+        rooms = one.rooms ∙ h.called.rooms;
+      };
+      entries = same_map (λ (s : ShelfState M). s.entries) shelves count x new there is (ap (λ (s : ShelfState M). s.entries) rest) ∙ h.entries;
     }
 
 -- Its entries were dropped.

@@ -1,6 +1,6 @@
 ghost use Rattle.std.specs.Prelude.{◌≡◌, ◌*◌, ◌/◌, ◌%◌, ◌<◌, ◌≤◌, [], ◌∷◌, IfErr, IfOk, IfSome, All, is_err, length, map, replicate};
 ghost use Rattle.nvm_values.specs.declared.op.Op.TheVariants.{Read};
-ghost use Rattle.nvm_model.specs.Medium.{HaveSize, got, sent};
+ghost use Rattle.nvm_model.specs.Medium.{HaveSize, got, marks_at, sent};
 ghost use Rattle.guest_ram.specs.Window.{data_pages};
 ghost use Rattle.nvm_blocks.specs.Namespace.{HasAppliedIn, HasCalled, HasRoom, IsClearedAt, block_call, IsForNamespace, block_count, entries_of, media_of, rooms_of, told_of, with_entry};
 ghost use Rattle.nvm_blocks.specs.Shelves.{cleared};
@@ -13,7 +13,7 @@ use guest_ram::Window;
 use mig_base::{Failed, OutOfMemory};
 use mig_medium::Medium;
 use nvm_model::{Piece, PieceResult};
-use shelves::{clear_all, make_shelves, take_media};
+use shelves::{clear_all, make_shelves, mark_all, take_media};
 use std::alloc::Global;
 use std::marker::Model;
 
@@ -140,6 +140,14 @@ impl<M: Medium> Namespace<M> {
     {
         let shelf = &mut self.shelves[(b / self.shelf) as usize];
         shelf.put(b, from)
+    }
+
+    /// Puts a mark into the trace of every medium, in their order, and does nothing else.
+    pub fn mark(&mut self, n: u64)
+        ensures called { HasCalled M.state M.moves self.old (marks_at (length self.old.shelves) n) self.new }
+        ensures entries { entries_of self.new ≡ entries_of self.old }
+    {
+        mark_all(&mut self.shelves, self.shelf, n);
     }
 
     /// Drops the entries of all shelves.

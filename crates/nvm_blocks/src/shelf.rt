@@ -1,6 +1,6 @@
 ghost use Rattle.std.specs.Prelude.{◌≡◌, ◌+◌, ◌-◌, ◌<◌, ◌≤◌, [], ◌++◌, ◌∷◌, OnErr, OnOk, is_err, length};
 ghost use Rattle.std.specs.Borrow.{Lends, sem};
-ghost use Rattle.nvm_model.specs.Medium.{IsMade, got, sent};
+ghost use Rattle.nvm_model.specs.Medium.{IsMade, got, marked, sent};
 ghost use Rattle.nvm_values.specs.declared.op.Op.TheVariants.{Read};
 ghost use Rattle.guest_ram.specs.Window.{data_pages};
 ghost use Rattle.nvm_blocks.specs.Work.{HasApplied, IsForShelf, IsSameButData};
@@ -113,6 +113,14 @@ impl<M: Medium> Shelf<M> {
         ensures rest { self.new ≡ record self.old { medium = self.new.medium } }
     {
         self.medium.put(b - self.first, from)
+    }
+
+    /// Puts a mark into the medium's trace, and does nothing else.
+    pub fn mark(&mut self, n: u64)
+        ensures call { IsMade M.state M.moves self.old.medium (marked n) self.new.medium }
+        ensures rest { self.new ≡ record self.old { medium = self.new.medium } }
+    {
+        self.medium.mark(n);
     }
 
     /// The entries, in the order in which their pieces were done.

@@ -7,7 +7,7 @@ use Rattle.nvm_blocks.specs.Namespace.{block_count, media_of}
 use Rattle.nvm_model.specs.Run.{CopiesAll, CopiesUpTo, Copy, gets_of, puts_of}
 use Rattle.guest_ram.specs.Ram.{shape}
 use Rattle.session.specs.Place.{PlaceState, pages_of}
-use Rattle.session.specs.Shelves.{SameShelves}
+use Rattle.session.specs.Port.{SamePlace}
 
 -- The copying of blocks from one place to another.
 
@@ -27,11 +27,6 @@ pub record AreAlike {M : Type 0} (places : Both M) : Type 0 where
 abbrev pub AreEnded : List ℕ → List Copy → Bool → Type 0
 AreEnded blocks copies false = CopiesAll blocks copies
 AreEnded blocks copies true = CopiesUpTo blocks copies
-
--- beside the media nothing changed
-pub record SamePlace {M : Type 0} (old new : PlaceState M) : Type 0 where
-  pub shelves : SameShelves old.namespace new.namespace
-  pub rest : new ≡ record old { namespace = new.namespace }
 
 -- a place's memory, page by page, and its controller went to the other one, which keeps its blocks
 pub record HandsOver {M : Type 0} (old new : Both M) : Type 0 where

@@ -40,17 +40,18 @@ pub data DestCall : Type 0 where
   -- every medium gets the mark
   Mark : ℕ → DestCall
 
--- a put that failed leaves every block, and its cause is a count that rose
+-- a put that failed leaves every block, and its cause is a count that rose; no count falls
 abbrev pub with_put : ℕ → List ℕ → Bool → List (List ℕ) → List (List ℕ)
 with_put b bytes true blocks = blocks
 with_put b bytes false blocks = slice_set blocks b bytes
 
 abbrev pub HasPutCause : Bool → ℕ → ℕ → Type 0
 HasPutCause true before now = RisesBy 1 before now
-HasPutCause false before now = before ≤ now
+HasPutCause false before now = Unit {0}
 
 pub record Puts (old : SideState) (b : ℕ) (bytes : List ℕ) (failed : Bool) (new : SideState) : Type 0 where
   pub written : StayTold (λ bs cs. cs ≡ with_put b bytes failed bs) old.blocks new.blocks
+  pub later : old.faults ≤ new.faults
   pub cause : HasPutCause failed old.faults new.faults
   pub is : new ≡ with_media_of new old
 
@@ -113,18 +114,19 @@ moves_place state moves old (Mark n) new = CallsPlace state moves (marks_at (len
 
 -- The port between a place and the other side.
 
--- its own meaning: the place whole, and what the other side means
+-- its own meaning: which two borrows it holds, the place whole, and what the other side means
 pub record Ends (M J : Type 0) : Type 0 where
+  pub names : ℕ × ℕ
   pub from : PlaceState M
   pub to : J
 
-abbrev pub port_of : {M I J : Type 0} → (M → MediumState I) → PlaceState M → DestState J → PortState (Ends M J)
-port_of state from to = record {
+abbrev pub port_of : {M I J : Type 0} → (M → MediumState I) → ℕ × ℕ → PlaceState M → DestState J → PortState (Ends M J)
+port_of state names from to = record {
   from = side_of_place state from;
   to = to.side;
   count = min (block_count from.namespace) to.count;
   left = to.left;
-  inside = record { from = from; to = to.inside };
+  inside = record { names = names; from = from; to = to.inside };
 }
 
 -- a block was got at the place, or that failed
@@ -140,3 +142,7 @@ moves_ends state moves dest old (Commanding From cmd bytes cpl new_bytes) new = 
 moves_ends state moves dest old (Commanding To cmd bytes cpl new_bytes) new = (new.from ≡ old.from) × dest old.to (Admin cmd bytes cpl new_bytes) new.to
 moves_ends state moves dest old (CopyingPage page) new = (new.from ≡ old.from) × (bytes : List ℕ) × dest old.to (Page page bytes) new.to
 moves_ends state moves dest old (Marking n) new = CallsPlace state moves (marks_at (length old.from.namespace.shelves) n) old.from new.from × dest old.to (Mark n) new.to
+
+-- and it holds these two borrows as before
+abbrev pub moves_port : {M I J : Type 0} → (M → MediumState I) → (I → Step → Bool → I → Type 0) → (J → DestCall → J → Type 0) → Ends M J → PortCall → Ends M J → Type 0
+moves_port state moves dest old c new = (new.names ≡ old.names) × moves_ends state moves dest old c new

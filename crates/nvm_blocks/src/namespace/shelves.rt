@@ -1,6 +1,7 @@
 // The shelves as a list, while they are made and taken apart.
 ghost use Rattle.std.specs.Prelude.{◌≡◌, ◌+◌, ◌-◌, ◌*◌, ◌<◌, ◌≤◌, [], ◌++◌, All, OnOk, length, map, reverse, vec_capacity};
-ghost use Rattle.nvm_blocks.specs.Shelves.{AreNew, cleared};
+ghost use Rattle.nvm_blocks.specs.Namespace.{IsNamespace};
+ghost use Rattle.nvm_blocks.specs.Shelves.{AreMarked, AreNew, cleared};
 
 use crate::Shelf;
 use mig_base::OutOfMemory;
@@ -56,6 +57,17 @@ pub(super) fn take_media<M: Medium>(shelves: Vec<Shelf<M>>, media: Vec<M>) -> Ve
     }
     shelves.destroy_empty();
     media
+}
+
+/// Puts a mark into the trace of every medium, in their order.
+pub(super) fn mark_all<M: Medium>(shelves: &mut Vec<Shelf<M>>, shelf: u32, n: u64)
+    requires { IsNamespace M.state shelf shelves.old.items }
+    ensures marked { AreMarked M.state M.moves shelf n (length shelves.old.items) shelves.old.items shelves.new.items }
+    ensures capacity { vec_capacity shelves.new ≡ vec_capacity shelves.old }
+{
+    for place in 0..shelves.len() {
+        shelves[place].mark(n);
+    }
 }
 
 /// Drops the entries of all shelves.

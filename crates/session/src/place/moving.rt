@@ -65,6 +65,6 @@ fn copy_pages(from: &Ram, to: &mut Ram)
     ensures shape { shape to.new ≡ shape to.old }
 {
     for page in 0..from.page_count() {
-        from.copy_page(page, to);
+        to.put_page(page, from.page(page));
     }
 }

@@ -5,8 +5,8 @@ use Rattle.session.specs.Place.{pages_of}
 use Rattle.session.proofs.MemoryLemmas.{one_copied, as_many_pages, all_pages_copied}
 use Rattle.session.proofs.place.moving.copy_pages.Goals as goal
 
-pub copy_page-requires-clause-to : goal.copy_page-requires-clause-to
-copy_page-requires-clause-to c =
+pub put_page-requires : goal.put_page-requires
+put_page-requires c =
     let many = as_many_pages c.loop-page.to c.args.from.now c.loop-page.invariant.shape in
     omega (arith, many)
 
@@ -15,7 +15,7 @@ loop-page-preserved c =
     let many = as_many_pages c.loop-page.to c.args.from.now c.loop-page.invariant.shape in
     record {
       shape = search rules;
-      copied = ap (λ (pages : List (List ℕ)). take (c.loop-page.page + 1) pages) c.copy_page.ensures.pages
+      copied = ap (λ (pages : List (List ℕ)). take (c.loop-page.page + 1) pages) c.put_page.ensures.pages
           ∙ one_copied c.loop-page.page (all_pages c.args.from.now) (all_pages c.loop-page.to) [] (omega arith) (omega (arith, many)) c.loop-page.invariant.copied;
     }
 
