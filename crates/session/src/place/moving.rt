@@ -103,8 +103,7 @@ impl<M: Medium> Dest for Place<M> {
     }
 
     fn admin(&mut self, cmd: &AdminCmd, bytes: &mut [u8]) -> AdminCpl {
-        self.controller
-            .admin(&cmd.to_bytes(), &mut self.ram, bytes)
+        self.controller.admin(&cmd.to_bytes(), &mut self.ram, bytes)
     }
 
     fn mark(&mut self, n: u64) {
