@@ -10,8 +10,9 @@ use Rattle.nvm_model.proofs.ChainLemmas.{chain_more}
 use Rattle.nvm_blocks.specs.Namespace.{HasCalled, NamespaceState, media_of}
 use Rattle.nvm_model.specs.Run.{AllCopied, CopiesAll, Copy, at_block, get_of, gets_of, put_of, puts_of}
 use Rattle.nvm_model.specs.Run.CopyEnd.{Copied, NotRead, NotWritten}
-use Rattle.session.specs.Copies.{AreEnded, Both, CopiesTo, SamePlace, both}
+use Rattle.session.specs.Copies.{AreEnded, Both, CopiesTo, both}
 use Rattle.session.specs.Place.{PlaceState}
+use Rattle.session.specs.Port.{SamePlace}
 use Rattle.session.proofs.ShelvesLemmas.{called_same, same_more, same_stay}
 
 -- Copies, block after block.

@@ -5,6 +5,7 @@ pub mod LanePartLemmas
 pub mod MemoryLemmas
 pub mod OpenLemmas
 pub mod OrderLemmas
+pub mod PortLemmas
 pub mod RestLemmas
 pub mod SeatLemmas
 pub mod ShelvesLemmas

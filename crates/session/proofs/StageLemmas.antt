@@ -23,7 +23,7 @@ use Rattle.turns.proofs.RunLaws.{went_more, went_none, went_sent}
 use Rattle.session.specs.declared.ending.Ending.TheVariants.{Done, GaveUp}
 use Rattle.session.specs.declared.lane_run.LaneRun.{LaneRun}
 use Rattle.session.specs.declared.order.Order.{Order}
-use Rattle.session.specs.Copies.{CopiesTo, HandsOver, SamePlace, both}
+use Rattle.session.specs.Copies.{CopiesTo, HandsOver, both}
 use Rattle.session.specs.Lanes.{HaveWindows}
 use Rattle.session.specs.Shelves.{IsNamespaceOf}
 use Rattle.nvm_model.specs.Told.{serial}

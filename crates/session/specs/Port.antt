@@ -1,8 +1,8 @@
-use Rattle.std.specs.Prelude.{◌≡◌, ℕ, ◌+◌, ◌^◌, ◌<◌, ◌≤◌, Bool, true, false, List, [], ◌∷◌, length, min, slice_set, sum}
+use Rattle.std.specs.Prelude.{◌≡◌, ℕ, ◌+◌, ◌^◌, ◌≤◌, Bool, true, false, List, [], ◌∷◌, length, min, slice_set, sum}
 use Rattle.mig_base.specs.Count.{RisesBy}
 use Rattle.nvm_model.specs.declared.trace.Step.{Step}
 use Rattle.nvm_model.specs.Chain.{Chain}
-use Rattle.nvm_model.specs.Medium.{At, IsAt, MediumState, StayTold, blocks_with, marks_at}
+use Rattle.nvm_model.specs.Medium.{At, IsAt, MediumState, StayTold, marks_at}
 use Rattle.nvm_model.specs.Run.{at_block, get_of, put_of}
 use Rattle.guest_ram.specs.Ram.{all_pages, shape}
 use Rattle.nvm_blocks.specs.Namespace.{block_count, faults_of, media_of, told_of}
@@ -11,7 +11,6 @@ use Rattle.adm_values.specs.declared.command.AdminCpl.{AdminCpl}
 use Rattle.adm_values.specs.Command.{command_bytes}
 use Rattle.controller.specs.Admin.{Answers}
 use Rattle.controller.specs.Pair.{ControllerState}
-use Rattle.manager.specs.declared.side.CopyAnswer.{CopyAnswer}
 use Rattle.manager.specs.declared.side.CopyAnswer.TheVariants.{Copied, Fault}
 use Rattle.manager.specs.declared.side.Side.TheVariants.{From, To}
 use Rattle.manager.specs.Port.{PortCall, PortState, SideState, with_controller, with_media_of}

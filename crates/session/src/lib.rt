@@ -3,6 +3,7 @@
 //! where the sink failed.
 #![tactic(auto)]
 
+mod dest;
 mod ending;
 mod lane_run;
 mod lane_script;
@@ -10,17 +11,20 @@ mod order;
 mod pieces;
 mod place;
 mod plan;
+mod port;
 mod posts;
 mod session;
 mod text;
 mod turn;
 mod whole;
 
+pub use dest::Dest;
 pub use ending::Ending;
 pub use lane_run::LaneRun;
 pub use lane_script::LaneScript;
 pub use order::Order;
 pub use place::Place;
+pub use port::Move;
 pub use session::{Next, Session};
 pub use turn::MOST_EVENTS;
 pub use whole::run;
