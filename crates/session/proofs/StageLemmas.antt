@@ -28,6 +28,7 @@ use Rattle.session.specs.Lanes.{HaveWindows}
 use Rattle.session.specs.Shelves.{IsNamespaceOf}
 use Rattle.nvm_model.specs.Told.{serial}
 use Rattle.session.specs.Place.{AreAllDone, AreQuiet, DoesTurn, IsPlaceOf, IsReady, PlaceState, StandsFor, StandsOn, machine, pages_of}
+use Rattle.session.specs.Port.{SamePlace}
 use Rattle.session.specs.Sides.{Goes, IsAhead, IsDueAfter, IsEnding, IsMoveDue, IsOnward, SessionState, Sides, at_side, by_side, less_one, machine_of, sides, turns_ahead}
 use Rattle.session.proofs.MemoryLemmas.{have_pages, same_pages, same_windows, whole_memory}
 use Rattle.session.proofs.ShelvesLemmas.{same_namespace}

@@ -1,4 +1,4 @@
-use Rattle.std.proofs.Common.{◌≡◌, ◌+◌, ℕ, List, [], length, take, ap, ◌∙◌, arith, rules}
+use Rattle.std.proofs.Common.{◌≡◌, ◌+◌, ℕ, List, [], length, set, take, ap, ◌∙◌, arith, rules}
 use Rattle.guest_ram.specs.Ram.{all_pages}
 use Rattle.guest_ram.specs.Window.{WindowState}
 use Rattle.session.specs.Place.{pages_of}
@@ -15,7 +15,7 @@ loop-page-preserved c =
     let many = as_many_pages c.loop-page.to c.args.from.now c.loop-page.invariant.shape in
     record {
       shape = search rules;
-      copied = ap (λ (pages : List (List ℕ)). take (c.loop-page.page + 1) pages) c.put_page.ensures.pages
+      copied = ap (λ (pages : List (List ℕ)). take (c.loop-page.page + 1) pages) (c.put_page.ensures.pages ∙ ap (set (all_pages c.loop-page.to) c.loop-page.page) c.page.ensures)
           ∙ one_copied c.loop-page.page (all_pages c.args.from.now) (all_pages c.loop-page.to) [] (omega arith) (omega (arith, many)) c.loop-page.invariant.copied;
     }
 
