@@ -7,5 +7,4 @@ pub mod Place
 pub mod Seats
 pub mod Shelves
 pub mod Sides
-pub mod Waiting
 pub mod Work

@@ -2,7 +2,7 @@ use Rattle.std.proofs.Common.{◌≡◌, ◌+◌, ℕ, List, [], length, take, a
 use Rattle.guest_ram.specs.Ram.{all_pages}
 use Rattle.guest_ram.specs.Window.{WindowState}
 use Rattle.session.specs.Place.{pages_of}
-use Rattle.session.proofs.MemoryLemmas.{one_copied, as_many_pages, all_pages_copied}
+use Rattle.guest_ram.proofs.Copied.{one_copied, as_many_pages, all_pages_copied}
 use Rattle.session.proofs.place.moving.copy_pages.Goals as goal
 
 pub copy_page-requires-clause-to : goal.copy_page-requires-clause-to
