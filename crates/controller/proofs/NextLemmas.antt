@@ -17,6 +17,7 @@ use Rattle.controller.proofs.PlanLemmas.{few_pieces}
 use Rattle.std.specs.Prelude.{IsTrue}
 use Rattle.std.proofs.lemmas.List.{get_or-take}
 use Rattle.nvm_values.specs.Op.{moves_data}
+use Rattle.nvm_values.specs.Status.{StatusPair}
 use Rattle.nvm_model.specs.declared.script.LaneSet.{LaneSet}
 use Rattle.nvm_model.specs.Check.{pages_needed}
 use Rattle.nvm_model.specs.Memory.{page_at}
@@ -29,7 +30,7 @@ use Rattle.nvm_blocks.specs.Work.{HasPages, IsSameButData}
 use Rattle.nvm_cmd.specs.Cut.{IsPartOf}
 use Rattle.nvm_cmd.specs.declared.job.Job.{Job}
 use Rattle.guest_ram.specs.Window.{WindowState, data_pages}
-use Rattle.controller.specs.Pair.{IsFetched, IsNewWork, after_pieces, command_pieces, lane_pieces, worked}
+use Rattle.controller.specs.Pair.{IsFetched, IsNewWork, after_pieces, command_pieces, lane_pieces, told_fetch, worked}
 
 -- The commands of a lane while their pieces are done, in their order, and what the next piece asks for and leaves.
 
@@ -290,3 +291,14 @@ lane_few k shelf blocks pages (c ∷ commands) large new =
     let others = lane_few k shelf blocks pages commands large (All-tail (IsFetched blocks pages) c commands new) in
     let both = length-append (command_pieces k shelf c) (lane_pieces k shelf commands) in
     omega (arith, own, few, others, both)
+
+-- what is told of new commands is how many pieces they have
+told_left : (shelf : ℕ) (commands : List Command) → sum (map (λ (f : ℕ × StatusPair × ℕ). f.2) (map (told_fetch shelf) commands)) ≡ sum (map (pieces_left shelf) commands)
+told_left shelf [] = refl
+told_left shelf (c ∷ cs) =
+    let here = sum_by-cons (λ (n : ℕ). n) (pieces_left shelf c) (map (λ (f : ℕ × StatusPair × ℕ). f.2) (map (told_fetch shelf) cs)) in
+    omega (arith, here, sum_by-cons (λ (n : ℕ). n) (pieces_left shelf c) (map (pieces_left shelf) cs), told_left shelf cs)
+
+pub pieces_told : (k shelf blocks pages : ℕ) (commands : List Command) → All (IsFetched blocks pages) commands →
+    length (lane_pieces k shelf commands) ≡ sum (map (λ (f : ℕ × StatusPair × ℕ). f.2) (map (told_fetch shelf) commands))
+pieces_told k shelf blocks pages commands all = lane_length k shelf blocks pages commands all ∙ sym (told_left shelf commands)

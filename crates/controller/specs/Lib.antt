@@ -2,3 +2,4 @@ pub mod Admin
 pub mod Changes
 pub mod Pair
 pub mod Parts
+pub mod Told

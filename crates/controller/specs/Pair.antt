@@ -78,6 +78,13 @@ pub record AtLane (k : ℕ) (Step : PairState → PairState → Type 0) (old new
   pub step : Step (pair_of old k) (pair_of new k)
   pub others : new ≡ with_pair k (pair_of new k) old
 
+-- one controller differs from another in the pair of lane k alone
+pub record IsSameButPair (k : ℕ) (old new : ControllerState) : Type 0 where
+  pub count : length new.pairs ≡ length old.pairs
+  pub burst : new.burst ≡ old.burst
+  pub phase : new.phase ≡ old.phase
+  pub others : (i : ℕ) → (i ≡ k - 1 → ⊥) → slice_index_or new.pairs i no_pair ≡ slice_index_or old.pairs i no_pair
+
 -- an empty pair of these sizes
 abbrev pub new_pair : ℕ → LaneSet → PairState
 new_pair room set = record no_pair {
@@ -207,6 +214,12 @@ FetchSteps blocks shelf window (command ∷ commands) old new = MayFetch old × 
 -- a plan with more pieces of a lane
 abbrev pub with_pieces : ℕ → List Piece → PlanState → PlanState
 with_pieces k pieces plan = record plan { lanes = slice_set plan.lanes (k - 1) (pieces_of plan k ++ pieces) }
+
+-- a plan differs from another in the pieces of lane k alone
+pub record IsSameButPieces (k : ℕ) (old new : PlanState) : Type 0 where
+  pub count : length new.lanes ≡ length old.lanes
+  pub size : new.room ≡ old.room
+  pub others : (i : ℕ) → (i ≡ k - 1 → ⊥) → slice_index_or new.lanes i [] ≡ slice_index_or old.lanes i []
 
 -- The fetches of a turn: until as many commands are fetched as a turn may have, or none may be any more. Their pieces
 -- stand in the plan behind the others, and where none was fetched before, what is told is told of these.

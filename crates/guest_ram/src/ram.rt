@@ -31,7 +31,7 @@ impl Model for Ram {
 }
 
 impl Ram {
-    ghost use Rattle.guest_ram.specs.Lending.{LendsWindows};
+    ghost use Rattle.guest_ram.specs.Lending.{LendsWindow, LendsWindows};
 
     /// No window.
     pub fn empty() -> Ram
@@ -80,6 +80,15 @@ impl Ram {
             Some(windows) => &windows[usize::from(lane.get()) - 1],
             None => unreachable!(),
         }
+    }
+
+    /// The window of a lane, which is there, for writing.
+    pub fn window_mut(&mut self, lane: LaneNo) -> &mut Window
+        requires { lane ≤ length self.old }
+        ensures* lends { sem 𝓛 (LendsWindow lane self.entry result) }
+        ensures value { result.now ≡ slice_index_or self.old (lane - 1) result.now }
+    {
+        &mut self.windows.as_mut().unwrap()[usize::from(lane.get()) - 1]
     }
 
     /// The number of window pages of all lanes.

@@ -1,4 +1,5 @@
 pub mod CountLemmas
 pub mod ListLemmas
 pub mod StreamSteps
+pub mod WaitLemmas
 pub mod WriteLemmas

@@ -37,14 +37,14 @@ cut_after a b before mid after first cut =
     )
 
 -- a call of which the count rose, from where it stood before
-cause_since : {T E : Type 0} {f g h : ℕ} {result : Result T E} → f ≤ g → HasCause g h result → HasCause f h result
+pub cause_since : {T E : Type 0} {f g h : ℕ} {result : Result T E} → f ≤ g → HasCause g h result → HasCause f h result
 cause_since {h = h} le cause = record {
   later = omega (arith, cause.later);
   failed = λ err. let rises : min (_ + 1) (2 ^ 64 - 1) ≤ h = cause.failed err in omega arith;
 }
 
 -- the text of the first parts of a list, and of all
-part_more : {A : Type 0} (part : A → List ℕ) (xs : List A) (i : ℕ) (d : A) → i < length xs → flat_map part (take (i + 1) xs) ≡ flat_map part (take i xs) ++ part (get_or xs i d)
+pub part_more : {A : Type 0} (part : A → List ℕ) (xs : List A) (i : ℕ) (d : A) → i < length xs → flat_map part (take (i + 1) xs) ≡ flat_map part (take i xs) ++ part (get_or xs i d)
 part_more part xs i d there = ap (flat_map part) (take_more xs i d there) ∙ sym (flat_map_more part [] (take i xs) (get_or xs i d))
 
 part_split : {A : Type 0} (part : A → List ℕ) (xs : List A) (i : ℕ) (d : A) → i < length xs → flat_map part xs ≡ (flat_map part (take i xs) ++ part (get_or xs i d)) ++ flat_map part (drop (i + 1) xs)

@@ -8,11 +8,12 @@ use Rattle.nvm_values.specs.declared.sqe.Sqe.{Sqe}
 use Rattle.nvm_model.specs.declared.command.Command.{Command}
 use Rattle.nvm_model.specs.declared.command.Completion.{Completion}
 use Rattle.nvm_model.specs.declared.ring.RingState.{RingState}
+use Rattle.nvm_model.specs.declared.script.Head.{Head}
 use Rattle.nvm_model.specs.declared.script.LaneSet.{LaneSet}
 use Rattle.nvm_model.specs.Event.{head_of_last, phase_of}
 use Rattle.nvm_model.specs.Memory.{page_at}
-use Rattle.nvm_model.specs.Ring.{CqState, IsCqRing, IsSqRing, completion_entry}
-use Rattle.nvm_model.specs.World.{Lane}
+use Rattle.nvm_model.specs.Ring.{CqState, IsCqRing, IsSqRing, completion_entry, cq_page, lane_window, sq_page}
+use Rattle.nvm_model.specs.World.{Lane, set_of}
 use Rattle.nvm_model.proofs.PlaceLemmas.{next_place-mod}
 use Rattle.nvm_ring.specs.Moves.{after_fetch, after_post, phase_at}
 use Rattle.nvm_ring.specs.Queues.{HasEnds, HasWindow, IsOrdered, TellsHeads, posted_entries, sq_of}
@@ -175,3 +176,18 @@ ordered_posted {l = l} command others c oldest head o =
       tells = tells_posted c head o.tells;
       untold = omega (arith, told_before (length l.posted) l.fetched l.reaped o.told o.reaped, o.untold);
     }
+
+-- A whole window.
+
+-- two pages and the others
+two_and_rest : (pages : List (List ℕ)) → 2 ≤ length pages → pages ≡ page_at pages 0 ∷ page_at pages 1 ∷ drop 2 pages
+two_and_rest [] some = absurd (omega arith)
+two_and_rest (a ∷ []) some = absurd (omega arith)
+two_and_rest (a ∷ b ∷ pages) some = refl
+
+-- a lane's window has its queues' pages and its memory, and nothing else
+pub window_whole : (head : Head) (k : ℕ) {pages : List (List ℕ)} {lane : Lane} → HasWindow k (set_of head k) pages lane → pages ≡ lane_window head k lane
+window_whole head k {pages} {lane} w =
+    let set = set_of head k in
+    two_and_rest pages (omega (arith, w.size)) ∙ ap (λ p. p ∷ page_at pages 1 ∷ drop 2 pages) w.sq ∙ ap (λ p. sq_page set.sq lane.submitted ∷ p ∷ drop 2 pages) w.cq
+    ∙ ap (λ ps. sq_page set.sq lane.submitted ∷ cq_page k set.cq lane.posted ∷ ps) (sym w.memory)

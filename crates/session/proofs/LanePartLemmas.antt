@@ -1,23 +1,19 @@
-use Rattle.std.proofs.Common.{◌≡◌, ℕ, ◌+◌, ◌-◌, ◌%◌, ◌<◌, ◌≤◌, Bool, true, false, not, List, [], ◌∷◌, ◌++◌, Some, None, Result, Ok, Err, IfOk, IsOk, get_or, length, map, set, take, sum, refl, sym, ap, subst, ◌∙◌, append_assoc, append-nil, get_or-set_other, get_or-set_same, length-set, arith}
-use Rattle.std.specs.List.{All, slice_get}
+use Rattle.std.proofs.Common.{◌≡◌, ℕ, ◌+◌, ◌%◌, ◌<◌, ◌≤◌, Bool, true, false, not, List, [], ◌∷◌, ◌++◌, Some, None, Result, Ok, Err, IfOk, IsOk, get_or, length, map, set, refl, sym, ap, subst, ◌∙◌, append_assoc, append-nil, arith}
+use Rattle.std.specs.List.{slice_get}
 use Rattle.std.proofs.lemmas.Bool.{false≢true}
-use Rattle.std.proofs.lemmas.List.{length-append, length-map, map-append, take_all, take_more}
+use Rattle.std.proofs.lemmas.List.{length-append, length-map}
 use Rattle.std.proofs.lemmas.List.Elements.{All-get_or}
-use Rattle.std.proofs.lemmas.List.Sums.{sum_by-cons}
 use Rattle.std.proofs.lemmas.Option.{slice_get_read, slice_get_within}
 use Rattle.nvm_values.specs.Cqe.{CqeFields}
-use Rattle.nvm_values.specs.Status.{StatusPair}
 use Rattle.nvm_model.specs.declared.command.Command.{Command}
 use Rattle.nvm_model.specs.declared.line.Line.{Line}
 use Rattle.nvm_model.specs.declared.line.Line.TheVariants as line
-use Rattle.nvm_model.specs.declared.piece.Piece.{Piece}
 use Rattle.nvm_model.specs.declared.piece.PieceResult.{PieceResult}
 use Rattle.nvm_model.specs.declared.script.Act.{Act}
 use Rattle.nvm_model.specs.declared.script.Act.TheVariants.{Idle}
 use Rattle.nvm_model.specs.declared.script.LaneSet.{LaneSet}
 use Rattle.nvm_model.specs.declared.script.Script.{Script}
 use Rattle.nvm_model.specs.Memory.{page_at}
-use Rattle.nvm_model.specs.Piece.{pieces_left}
 use Rattle.nvm_model.specs.Ring.{CqState, GuestCqState, IsCqRing, completion_entry}
 use Rattle.nvm_model.specs.ScriptText.{IsAct, IsSet}
 use Rattle.nvm_model.specs.Turn.{ActsOn, Plans, PostsAll, ReapsAll}
@@ -27,18 +23,17 @@ use Rattle.nvm_ring.specs.Queues.{HasGuestEnds, HasWindow, IsOrdered, posted_ent
 use Rattle.nvm_ring.specs.Stands.{TakesReaped}
 use Rattle.nvm_ring.proofs.QueueLemmas.{cq_stands}
 use Rattle.guest_ram.specs.Window.{WindowState}
-use Rattle.hall.specs.Plan.{PlanState, pieces_of}
 use Rattle.lanes.specs.Guest.{GuestState, Reaped, Reaps, lane_after}
-use Rattle.controller.specs.Pair.{AtLane, ControllerState, Fetches, IsFetched, PairState, Posts, RingsCq, fetch_line, lane_pieces, no_pair, outcomes_of, pair_of, post_line, told_fetch, with_pieces, worked}
+use Rattle.controller.specs.Pair.{AtLane, ControllerState, Fetches, PairState, Posts, RingsCq, fetch_line, outcomes_of, pair_of, post_line, worked, IsSameButPair}
 use Rattle.controller.specs.Pair.{Stands as ControllerStands}
 use Rattle.turns.specs.Parts.{ActsSome, ReapsSome}
 use Rattle.lanes.proofs.KeptLemmas.{fetches_keep, known_ends, posts_keep, same_ends}
 use Rattle.turns.proofs.PartLaws.{act_done, reaps_none, reaps_one}
 use Rattle.session.specs.declared.lane_run.LaneRun.{LaneRun}
-use Rattle.session.specs.LaneParts.{BothStand, DidAct, IsGuestStep, IsSameButPair, IsSeat, Leads, StandsFree, seat_of}
+use Rattle.session.specs.LaneParts.{BothStand, DidAct, IsGuestStep, IsSeat, Leads, StandsFree, seat_of}
 use Rattle.session.specs.Lanes.{IsRunOf, Stands}
-use Rattle.session.specs.Phases.{IsSameButPieces}
-use Rattle.controller.proofs.NextLemmas.{lane_length, none_worked}
+use Rattle.controller.proofs.NextLemmas.{none_worked}
+use Rattle.controller.proofs.PairLemmas.{pair_same, pair_more}
 
 -- The parts of one lane's turn: its events, one part after another.
 
@@ -63,27 +58,6 @@ leads_more {a = a} join one step =
 -- as many events more as were added
 pub added_count : {X : Type 0} {Part : X → List Line → X → Type 0} {Stood : X → Type 0} {x : X} {a b : List Line} → (to : Leads Part Stood x a b) → length b ≡ length a + length to.added
 added_count {a = a} to = ap length to.events_are ∙ length-append a to.added
-
--- one controller and another that differs in the pair of lane k alone
-pub pair_same : {k : ℕ} (c : ControllerState) → IsSameButPair k c c
-pair_same c = record { count = refl; burst = refl; phase = refl; others = λ i other. refl }
-
-pub pair_more : {k : ℕ} {a b c : ControllerState} → IsSameButPair k a b → IsSameButPair k b c → IsSameButPair k a c
-pair_more x y = record { count = y.count ∙ x.count; burst = y.burst ∙ x.burst; phase = y.phase ∙ x.phase; others = λ i other. y.others i other ∙ x.others i other }
-
--- a step of the pair of lane k alone
-pub pair_stepped : {k : ℕ} {Step : PairState → PairState → Type 0} {a b : ControllerState} → AtLane k Step a b → IsSameButPair k a b
-pair_stepped {k} {a = a} {b} at = record {
-  count = ap (λ (c : ControllerState). length c.pairs) at.others ∙ length-set a.pairs (k - 1) (pair_of b k);
-  burst = ap (λ (c : ControllerState). c.burst) at.others;
-  phase = ap (λ (c : ControllerState). c.phase) at.others;
-  others = λ i other. ap (λ (c : ControllerState). get_or c.pairs i no_pair) at.others ∙ get_or-set_other a.pairs (k - 1) i (pair_of b k) no_pair other;
-}
-
--- a doorbell leaves the commands, whatever was rung
-pub rung_commands : {value : ℕ} {old new : PairState} (result : Result (Unit {0}) BadDoorbell) → RingsCq value result old new → new.commands ≡ old.commands
-rung_commands (Ok a) rings = ap (λ (p : PairState). p.commands) rings.moved
-rung_commands (Err bad) rings = ap (λ (p : PairState). p.commands) rings.same.1
 
 -- what holds of a good answer, of one that is
 as_ok : {A E : Type 0} (M : Type 0) (r : Result A E) → IsOk r → IfOk r (λ _. M) → M
@@ -212,17 +186,6 @@ act_did idle {s} {k} {l} {run} act events due acts none did is_idle other =
 pub acts_are : {on : Bool} {s : Script} {k : ℕ} {l : Lane} {Stood : Lane → Type 0} {a b : List Line} (to : Leads (ActsSome on s k) Stood l a b) → ActsOn s k l to.added to.new → Leads (ActsOn s k) Stood l a b
 acts_are to on = record { new = to.new; added = to.added; part = on; stands = to.stands; events_are = to.events_are }
 
--- one line more of a list's
-pub pushed_more : {X Y : Type 0} (f : X → Y) (before now : List Y) (xs : List X) (i : ℕ) (x : X) → i < length xs → x ≡ get_or xs i x → now ≡ before ++ map f (take i xs) → now ++ f x ∷ [] ≡ before ++ map f (take (i + 1) xs)
-pushed_more {Y = Y} f before now xs i x there x_is is =
-    let one : map f (take (i + 1) xs) ≡ map f (take i xs) ++ f x ∷ [] =
-    ap (map f) (take_more xs i x there) ∙ map-append f (take i xs) (get_or xs i x ∷ []) ∙ ap (λ y. map f (take i xs) ++ f y ∷ []) (sym x_is) in
-    ap (λ (ys : List Y). ys ++ f x ∷ []) is ∙ append_assoc before (map f (take i xs)) (f x ∷ []) ∙ ap (λ (ys : List Y). before ++ ys) (sym one)
-
--- all of a list's lines
-pub pushed_all : {X Y : Type 0} (f : X → Y) (before now : List Y) (xs : List X) (i : ℕ) → length xs ≤ i → now ≡ before ++ map f (take i xs) → now ≡ before ++ map f xs
-pushed_all f before now xs i all is = is ∙ ap (λ ys. before ++ map f ys) (take_all i xs all)
-
 -- One lane's plan.
 
 -- a session that stands for a lane, without its acts and its commands
@@ -293,18 +256,6 @@ plans_lane {s} {k} {l} {run} {r = r} {a = a} {c = c} reaps acts fetches number n
           ∙ ap (λ (es : List Line). a ++ es) (append_assoc reaps.added acts.added told);
     }
 
--- a plan with more pieces of lane k
-pub with_same : (k : ℕ) (pieces : List Piece) (old : PlanState) {new : PlanState} → new ≡ with_pieces k pieces old → IsSameButPieces k old new
-with_same k pieces old is = record {
-  count = ap (λ (p : PlanState). length p.lanes) is ∙ length-set old.lanes (k - 1) _;
-  size = ap (λ (p : PlanState). p.room) is;
-  others = λ i other. ap (λ (p : PlanState). get_or p.lanes i []) is ∙ get_or-set_other old.lanes (k - 1) i _ [] other;
-}
-
--- where it had none, it has these
-pub with_here : (k : ℕ) (pieces : List Piece) (old : PlanState) {new : PlanState} → new ≡ with_pieces k pieces old → pieces_of old k ≡ [] → k - 1 < length old.lanes → pieces_of new k ≡ pieces
-with_here k pieces old is none there = ap (λ (p : PlanState). pieces_of p k) is ∙ get_or-set_same old.lanes (k - 1) _ [] there ∙ ap (λ (ps : List Piece). ps ++ pieces) none
-
 -- One lane's posts.
 
 -- the posts of a lane that stands
@@ -330,14 +281,3 @@ posts_lane {s} {k} {l} {run} {new} {q = q} a stands guest acts posts none =
       events_are = refl;
       part = posts.posts;
     }
-
--- what is told of new commands is how many pieces they have
-told_left : (shelf : ℕ) (commands : List Command) → sum (map (λ (f : ℕ × StatusPair × ℕ). f.2) (map (told_fetch shelf) commands)) ≡ sum (map (pieces_left shelf) commands)
-told_left shelf [] = refl
-told_left shelf (c ∷ cs) =
-    let here = sum_by-cons (λ (n : ℕ). n) (pieces_left shelf c) (map (λ (f : ℕ × StatusPair × ℕ). f.2) (map (told_fetch shelf) cs)) in
-    omega (arith, here, sum_by-cons (λ (n : ℕ). n) (pieces_left shelf c) (map (pieces_left shelf) cs), told_left shelf cs)
-
-pub pieces_told : (k shelf blocks pages : ℕ) (commands : List Command) → All (IsFetched blocks pages) commands →
-    length (lane_pieces k shelf commands) ≡ sum (map (λ (f : ℕ × StatusPair × ℕ). f.2) (map (told_fetch shelf) commands))
-pieces_told k shelf blocks pages commands all = lane_length k shelf blocks pages commands all ∙ sym (told_left shelf commands)

@@ -1,6 +1,5 @@
 pub mod AllLanesLemmas
 pub mod CopyLemmas
-pub mod LaneLemmas
 pub mod LanePartLemmas
 pub mod MemoryLemmas
 pub mod OpenLemmas
@@ -12,5 +11,4 @@ pub mod ShelvesLemmas
 pub mod StageLemmas
 pub mod StartLemmas
 pub mod TurnLemmas
-pub mod WaitingLemmas
 pub mod WorkLemmas

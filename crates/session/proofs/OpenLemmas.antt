@@ -1,5 +1,5 @@
-use Rattle.std.proofs.Common.{◌≡◌, ℕ, ◌+◌, ◌-◌, ◌<◌, ◌≤◌, inr, false, Option, Some, None, List, length, slice_index_or, take, refl, sym, ap, ◌∙◌, arith}
-use Rattle.std.proofs.lemmas.List.{get_or-map, length-map, length-take-le}
+use Rattle.std.proofs.Common.{◌≡◌, ℕ, ◌+◌, ◌-◌, ◌≤◌, inr, false, Option, Some, None, List, length, slice_index_or, take, refl, sym, ap, ◌∙◌, arith}
+use Rattle.std.proofs.lemmas.List.{get_or-map, length-map}
 use Rattle.nvm_model.specs.declared.script.LaneSet.{LaneSet}
 use Rattle.nvm_model.specs.declared.script.Script.{Script}
 use Rattle.nvm_model.specs.ScriptText.{IsScript, IsTurn}
@@ -11,29 +11,26 @@ use Rattle.session.specs.Opened.{IsNewPlace, Opens}
 use Rattle.session.specs.Place.{AreQuiet, IsPlaceOf, PlaceState, StandsFor, StandsOn}
 use Rattle.session.specs.Sides.{IsAhead, IsNewSession, SessionState, machine_of, turns_ahead}
 use Rattle.session.proofs.MemoryLemmas.{whole_memory}
-use Rattle.session.proofs.StartLemmas.{have_made, new_stands, pages_at}
+use Rattle.session.proofs.StartLemmas.{have_made, new_stands}
+use Rattle.turns.proofs.ScriptLaws.{count_sets, set_at}
 
 -- A session with two places as they are opened.
 
 -- the queue pair of a lane, of a controller of which nothing was asked
 new_pairs : {s : Script} {cells : ℕ} {controller : ControllerState} → IsScript s → IsMade Running (take s.head.lanes s.head.sets) cells s.head.burst controller → (k : ℕ) → 1 ≤ k → k ≤ s.head.lanes → pair_of controller k ≡ new_pair s.head.burst (set_of s.head k)
 new_pairs {s} {controller = controller} is made k first few =
-    let sets = take s.head.lanes s.head.sets in
     let none : LaneSet = record { sq = 0; cq = 0; pages = 0 } in
-    let enough : s.head.lanes ≤ length s.head.sets = omega (arith, is.head.sets.0, is.head.lanes.1) in
-    let within : k - 1 < length sets = rw (length-take-le s.head.lanes s.head.sets enough) (omega (arith, first, few)) in
-    ap (λ (pairs : List PairState). slice_index_or pairs (k - 1) no_pair) made.pairs ∙ get_or-map (new_pair s.head.burst) sets (k - 1) none no_pair within ∙ ap (new_pair s.head.burst) (pages_at s k none is first few)
+    let count = count_sets s.head is.head in
+    ap (λ (pairs : List PairState). slice_index_or pairs (k - 1) no_pair) made.pairs ∙ get_or-map (new_pair s.head.burst) (take s.head.lanes s.head.sets) (k - 1) none no_pair (omega (arith, count, first, few))
+    ∙ ap (new_pair s.head.burst) (set_at s.head k none is.head first few)
 
 is_place : {M : Type 0} {s : Script} {media : List M} {place : PlaceState M} → IsScript s → IsNewPlace s.head media place → IsPlaceOf s place
-is_place {M} {s} {media} {place} is new =
-    let sets = take s.head.lanes s.head.sets in
-    let enough : s.head.lanes ≤ length s.head.sets = omega (arith, is.head.sets.0, is.head.lanes.1) in
-    record {
-      namespace = new.namespace;
-      windows = have_made is new.windows;
-      pairs = ap (λ (pairs : List PairState). length pairs) new.controller.pairs ∙ length-map sets (new_pair s.head.burst) ∙ length-take-le s.head.lanes s.head.sets enough;
-      burst = new.controller.burst_is;
-    }
+is_place {M} {s} {media} {place} is new = record {
+  namespace = new.namespace;
+  windows = have_made is new.windows;
+  pairs = ap (λ (pairs : List PairState). length pairs) new.controller.pairs ∙ length-map (take s.head.lanes s.head.sets) (new_pair s.head.burst) ∙ count_sets s.head is.head;
+  burst = new.controller.burst_is;
+}
 
 -- its runs stand for the lanes at the start, with either place
 starts : {M : Type 0} {session : SessionState} {media : List M} {place : PlaceState M} → IsScript session.script → IsNewSession session.script session → IsNewPlace session.script.head media place →

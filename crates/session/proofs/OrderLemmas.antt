@@ -1,8 +1,7 @@
 use Rattle.std.proofs.Common.{◌≡◌, ℕ, ◌+◌, ◌-◌, ◌*◌, ◌<◌, ◌≤◌, ◌⊎◌, ⊎_elim, Bool, List, [], ◌∷◌, ◌++◌, All, length, map, sum, slice_index_or, slice_set, refl, sym, ap, subst, ◌∙◌, arith, append_assoc, append-nil}
 use Rattle.std.proofs.lemmas.Bool.{cases_eq}
 use Rattle.std.proofs.lemmas.List.{length-append, length-set, map-append, get_or-set_same, get_or-set_other}
-use Rattle.std.proofs.lemmas.List.Elements.{All-from_get_or, All-head, All-tail}
-use Rattle.std.proofs.lemmas.List.Sums.{sum_by-cons, sum_by-set}
+use Rattle.std.proofs.lemmas.List.Elements.{All-from_get_or}
 use Rattle.nvm_model.specs.declared.line.Line.{Line}
 use Rattle.nvm_model.specs.declared.piece.PieceResult.{PieceResult}
 use Rattle.nvm_model.specs.declared.script.Script.{Script}
@@ -20,7 +19,8 @@ use Rattle.session.specs.Phases.{DoesPieces, HasPlan, StandsNext, StandsOver}
 use Rattle.nvm_model.specs.Told.{serial}
 use Rattle.session.specs.Place.{PlaceState, StandsOn, machine}
 use Rattle.session.specs.Work.{AreLeft, HasResult, HasResultAt}
-use Rattle.session.proofs.WorkLemmas.{element_at, pieces_fit}
+use Rattle.session.proofs.WorkLemmas.{pieces_fit}
+use Rattle.mig_base.proofs.ListLemmas.{element_at, sum_few}
 
 -- Pieces in their order.
 
@@ -82,17 +82,13 @@ left_less {s} {runs} {new} {plan} {left} at result low some has is = record {
       omega (arith, before, own, more, there))
       (λ other.
       let own : slice_index_or (slice_set left at (slice_index_or left at 0 - 1)) (k - 1) 0 ≡ slice_index_or left (k - 1) 0 = get_or-set_other left at (k - 1) (slice_index_or left at 0 - 1) 0 other in
-      let same = ap (λ (run : LaneRun). length run.results.items) (has.others (k - 1) d other) in
+      let same = ap (λ (run : LaneRun). length run.results.items) (has.same.others (k - 1) d other) in
       omega (arith, before, own, same))
       (cases_eq (k - 1) at);
 }
   where
     one_more : (run after : LaneRun) (result : PieceResult) → HasResult run result after → length after.results.items ≡ length run.results.items + 1
     one_more run after result one = ap length one.results ∙ length-append run.results.items (result ∷ [])
-
--- their sum falls by one
-pub sum_less : (left : List ℕ) (place : ℕ) → place < length left → 1 ≤ slice_index_or left place 0 → sum (slice_set left place (slice_index_or left place 0 - 1)) + 1 ≡ sum left
-sum_less left place low some = omega (arith, some, sum_by-set (λ (n : ℕ). n) left place (slice_index_or left place 0 - 1) 0 low)
 
 -- what is left of the lane at a place
 pub left_at : {s : Script} {runs : List LaneRun} {plan : PlanState} {left : List ℕ} → AreLeft s runs plan left → (at : ℕ) (d : LaneRun) → at < s.head.lanes →
@@ -101,18 +97,6 @@ left_at {s} {runs} {plan} {left} is at d low =
     let here : at + 1 - 1 ≡ at = omega arith in
     subst (λ (i : ℕ). slice_index_or left i 0 + length (slice_index_or runs i d).results.items ≡ length (pieces_of plan (at + 1))) here (is.each (at + 1) d (omega arith) (omega (arith, low)))
 
--- where none is left the sum is 0
-pub sum_none : (left : List ℕ) → All (λ (n : ℕ). n ≡ 0) left → sum left ≡ 0
-sum_none [] none = refl
-sum_none (x ∷ left) none =
-    omega (arith, All-head (λ (n : ℕ). n ≡ 0) x left none, sum_none left (All-tail (λ (n : ℕ). n ≡ 0) x left none), sum_by-cons (λ (n : ℕ). n) x left)
-
--- the sum of numbers of at most 4,096 each
-sum_few : (left : List ℕ) → All (λ (n : ℕ). n ≤ 4096) left → sum left ≤ 4096 * length left
-sum_few [] few = omega arith
-sum_few (x ∷ left) few =
-    omega (arith, All-head (λ (n : ℕ). n ≤ 4096) x left few, sum_few left (All-tail (λ (n : ℕ). n ≤ 4096) x left few), sum_by-cons (λ (n : ℕ). n) x left)
-
 -- a turn has at most 4,096 pieces of each lane
 pub left_few : {M : Type 0} {s : Script} {runs : List LaneRun} {plan : PlanState} {place : PlaceState M} {left : List ℕ} → HasPlan s runs plan place → AreLeft s runs plan left → sum left ≤ 4096 * s.head.lanes
 left_few {s = s} {runs} {plan} {left = left} has are =
@@ -120,7 +104,7 @@ left_few {s = s} {runs} {plan} {left = left} has are =
     let there : i < s.head.lanes = omega (arith, low, are.count) in
     let d = element_at runs i (omega (arith, there, has.fit.own.count)) in
     omega (arith, left_at are i d there, pieces_fit has.fit.head.shelf.0 (has.planned (i + 1) (omega arith) (omega (arith, there))), has.fit.head.burst.1)) in
-    omega (arith, sum_few left each, are.count)
+    omega (arith, sum_few 4096 left each, are.count)
 
 -- where none is left all were done
 pub all_done : {s : Script} {runs : List LaneRun} {plan : PlanState} {left : List ℕ} → AreLeft s runs plan left → All (λ (n : ℕ). n ≡ 0) left → (k : ℕ) (d : LaneRun) → 1 ≤ k → k ≤ s.head.lanes →

@@ -1,4 +1,4 @@
-use Rattle.std.specs.Prelude.{◌≡◌, ℕ, ◌+◌, ◌-◌, ◌≤◌, Bool, true, false, List, [], ◌++◌, Vec, length, slice_index_or, vec_capacity, vec_len}
+use Rattle.std.specs.Prelude.{◌≡◌, ℕ, ◌+◌, ◌≤◌, Bool, true, false, List, [], ◌++◌, Vec, length, vec_capacity, vec_len}
 use Rattle.std.specs.declared.alloc.Global.{Global}
 use Rattle.nvm_model.specs.declared.line.Line.{Line}
 use Rattle.nvm_model.specs.declared.script.Act.{Act}
@@ -10,7 +10,7 @@ use Rattle.nvm_model.specs.World.{Lane, set_of}
 use Rattle.nvm_ring.specs.Queues.{HasEnds}
 use Rattle.guest_ram.specs.Window.{WindowState}
 use Rattle.controller.specs.declared.controller.Phase.TheVariants.{Running}
-use Rattle.controller.specs.Pair.{ControllerState, PairState, no_pair, pair_of}
+use Rattle.controller.specs.Pair.{ControllerState, IsSameButPair, PairState, pair_of}
 use Rattle.lanes.specs.Guest.{GuestState, lane_after}
 use Rattle.lanes.specs.Guest.{Stands as GuestStands}
 use Rattle.session.specs.declared.lane_run.LaneRun.{LaneRun}
@@ -67,13 +67,6 @@ pub record MayFetch (s : Script) (k : ℕ) (x : Seat) : Type 0 where
   pub free : IsFree s k x
   pub phase : x.controller.phase ≡ Running
   pub burst : x.controller.burst ≡ s.head.burst
-
--- one controller differs from another in the pair of lane k alone
-pub record IsSameButPair (k : ℕ) (old new : ControllerState) : Type 0 where
-  pub count : length new.pairs ≡ length old.pairs
-  pub burst : new.burst ≡ old.burst
-  pub phase : new.phase ≡ old.phase
-  pub others : (i : ℕ) → (i ≡ k - 1 → ⊥) → slice_index_or new.pairs i no_pair ≡ slice_index_or old.pairs i no_pair
 
 -- what steps of the guest of lane k leave
 pub record IsGuestStep (s : Script) (k : ℕ) (x y : Seat) : Type 0 where

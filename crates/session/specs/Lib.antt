@@ -8,5 +8,4 @@ pub mod Port
 pub mod Seats
 pub mod Shelves
 pub mod Sides
-pub mod Waiting
 pub mod Work

@@ -9,7 +9,7 @@ use Rattle.nvm_model.specs.ScriptText.{IsHead}
 use Rattle.nvm_blocks.specs.Namespace.{media_of}
 use Rattle.hall.specs.Plan.{PlanState, pieces_of}
 use Rattle.controller.specs.declared.controller.Phase.TheVariants.{Running}
-use Rattle.controller.specs.Pair.{PairState}
+use Rattle.controller.specs.Pair.{IsSameButPieces, PairState}
 use Rattle.nvm_model.specs.Run.{Here, IsPiece, PieceCalled, piece_line}
 use Rattle.session.specs.declared.lane_run.LaneRun.{LaneRun}
 use Rattle.session.specs.Lanes.{ArePlanned, IsPlanned}
@@ -34,12 +34,6 @@ pub record FitPlan (s : Script) (plan : PlanState) : Type 0 where
 pub record HasRoom (s : Script) (plan : PlanState) (events : Vec Line Global) : Type 0 where
   pub fits : FitPlan s plan
   pub most : 4608 * s.head.lanes ≤ vec_capacity events
-
--- a plan differs from another in the pieces of lane k alone
-pub record IsSameButPieces (k : ℕ) (old new : PlanState) : Type 0 where
-  pub count : length new.lanes ≡ length old.lanes
-  pub size : new.room ≡ old.room
-  pub others : (i : ℕ) → (i ≡ k - 1 → ⊥) → slice_index_or new.lanes i [] ≡ slice_index_or old.lanes i []
 
 -- the pieces of lane k's fetched commands were put into a plan where it had none
 pub record PlansLane (s : Script) (k : ℕ) (old new : PlanState) (pair : PairState) : Type 0 where

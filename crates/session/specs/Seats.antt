@@ -12,9 +12,9 @@ use Rattle.nvm_blocks.specs.Namespace.{IsForNamespace, NamespaceState, block_cou
 use Rattle.nvm_blocks.specs.Work.{IsSameButData}
 use Rattle.guest_ram.specs.Window.{WindowState, data_pages, no_window}
 use Rattle.controller.specs.declared.controller.Phase.TheVariants.{Running}
-use Rattle.controller.specs.Pair.{pair_of}
+use Rattle.controller.specs.Changes.{Notes}
+use Rattle.controller.specs.Pair.{IsSameButPair, pair_of}
 use Rattle.session.specs.declared.lane_run.LaneRun.{LaneRun}
-use Rattle.session.specs.LaneParts.{IsSameButPair}
 use Rattle.session.specs.Lanes.{IsRunOf, Stands, window_of}
 use Rattle.session.specs.Place.{IsPlaceOf, PlaceState}
 use Rattle.session.specs.Shelves.{SameShelves}
@@ -45,7 +45,7 @@ HasRooms n = (1 ≤ n.shelf) × All (λ (room : ℕ). 64 ≤ room) (rooms_of n)
 
 -- a piece for the place's namespace, and for the window of its lane, which is there
 pub record IsForPlace {M : Type 0} (piece : Piece) (place : PlaceState M) : Type 0 where
-  pub lane : piece.lane ≤ length place.windows
+  pub lane : (1 ≤ piece.lane) × (piece.lane ≤ length place.windows)
   pub fits : IsForNamespace place.namespace (length (data_pages (window_of place.windows piece.lane))) piece
   pub rooms : HasRooms place.namespace
   pub few : block_count place.namespace ≤ 131072
@@ -64,7 +64,7 @@ pub record IsSameButSeat {M : Type 0} (k : ℕ) (old new : PlaceState M) : Type 
   pub windows : IsSameButWindow k old.windows new.windows
 
 -- A piece of a lane was done at a place: these calls were made of its media, and beside these its window's data pages
--- alone may have changed, and the controller's queue of changes.
+-- alone may have changed, and the controller's queue, which has what the piece changed where changes are told.
 pub record DoesPieceAt {M I : Type 0} (state : M → MediumState I) (moves : I → Step → Bool → I → Type 0) (piece : Piece) (result : PieceResult) (old new : PlaceState M) : Type 0 where
   pub moved : List (List ℕ)
   pub done : IsPieceDone piece moved result (data_pages (window_of old.windows piece.lane)) (data_pages (window_of new.windows piece.lane))
@@ -74,4 +74,4 @@ pub record DoesPieceAt {M I : Type 0} (state : M → MediumState I) (moves : I �
   pub shelves : SameShelves old.namespace new.namespace
   pub kept : IsSameButData (window_of old.windows piece.lane) (window_of new.windows piece.lane)
   pub windows : new.windows ≡ slice_set old.windows (piece.lane - 1) (window_of new.windows piece.lane)
-  pub controller : new.controller ≡ record old.controller { queue = new.controller.queue }
+  pub noted : Notes piece result old.controller new.controller

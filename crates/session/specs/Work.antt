@@ -1,6 +1,4 @@
-use Rattle.std.specs.Prelude.{◌≡◌, ℕ, ◌+◌, ◌-◌, ◌≤◌, List, [], ◌∷◌, ◌++◌, All, Option, Some, None, length, map, slice_index_or, vec_capacity}
-use Rattle.nvm_values.specs.declared.op.Op.{Op}
-use Rattle.nvm_values.specs.declared.op.Op.TheVariants.{Flush, Write, Read, Compare, WriteZeroes, Verify}
+use Rattle.std.specs.Prelude.{◌≡◌, ℕ, ◌+◌, ◌-◌, ◌≤◌, List, [], ◌∷◌, ◌++◌, All, length, map, slice_index_or, vec_capacity}
 use Rattle.nvm_model.specs.declared.piece.PieceResult.{PieceResult}
 use Rattle.nvm_model.specs.declared.script.Script.{Script}
 use Rattle.nvm_model.specs.World.{set_of}
@@ -9,15 +7,6 @@ use Rattle.controller.specs.Pair.{IsFetched, PairState, lane_pieces, told_fetch}
 use Rattle.session.specs.declared.lane_run.LaneRun.{LaneRun}
 
 -- The pieces of a turn, one by one.
-
--- the digest that a piece's line tells
-abbrev pub digest_told : Op → List ℕ → Option (List ℕ)
-digest_told Read digest = Some digest
-digest_told Write digest = None
-digest_told WriteZeroes digest = None
-digest_told Compare digest = None
-digest_told Verify digest = None
-digest_told Flush digest = None
 
 -- how many pieces of each lane aren't done
 pub record AreLeft (s : Script) (runs : List LaneRun) (plan : PlanState) (left : List ℕ) : Type 0 where
@@ -33,11 +22,15 @@ pub record HasResult (run : LaneRun) (result : PieceResult) (new : LaneRun) : Ty
   pub results : new.results.items ≡ run.results.items ++ result ∷ []
   pub room : vec_capacity new.results ≡ vec_capacity run.results
 
--- the run at a place has one result more, and no other run changed
-pub record HasResultAt (at : ℕ) (result : PieceResult) (runs new : List LaneRun) : Type 0 where
+-- no run but the one at a place changed
+pub record IsSameButRun (at : ℕ) (runs new : List LaneRun) : Type 0 where
   pub count : length new ≡ length runs
-  pub here : (d : LaneRun) → HasResult (slice_index_or runs at d) result (slice_index_or new at d)
   pub others : (i : ℕ) (d : LaneRun) → (i ≡ at → ⊥) → slice_index_or new i d ≡ slice_index_or runs i d
+
+-- the run at a place has one result more
+pub record HasResultAt (at : ℕ) (result : PieceResult) (runs new : List LaneRun) : Type 0 where
+  pub here : (d : LaneRun) → HasResult (slice_index_or runs at d) result (slice_index_or new at d)
+  pub same : IsSameButRun at runs new
 
 -- the commands of a lane were fetched, and all their pieces were done
 pub record MayPost (s : Script) (k : ℕ) (run : LaneRun) (pair : PairState) : Type 0 where

@@ -3,6 +3,7 @@ ghost use Rattle.std.specs.Prelude.{◌≡◌, ◌+◌, ◌-◌, ◌*◌, ◌<�
 ghost use Rattle.nvm_model.specs.declared.line.Line.TheVariants as line;
 ghost use Rattle.nvm_model.specs.declared.piece.Piece.{Piece as ThePiece};
 ghost use Rattle.hall.specs.Plan.{pieces_of};
+ghost use Rattle.controller.specs.Told.{digest_told};
 ghost use Rattle.nvm_model.specs.Run.{Here, MayBeNext};
 ghost use Rattle.session.specs.declared.lane_run.LaneRun.{LaneRun};
 ghost use Rattle.nvm_model.specs.declared.piece.PieceResult.{PieceResult as TheResult};
@@ -11,7 +12,7 @@ ghost use Rattle.session.specs.Phases.{AreDone, AreUndone, DoesPieces, FitPlan, 
 ghost use Rattle.session.specs.Phases.{StandsNext, StandsOver};
 ghost use Rattle.nvm_model.specs.Told.{serial};
 ghost use Rattle.session.specs.Place.{AreRunsOf, StandsOn, machine};
-ghost use Rattle.session.specs.Work.{AreLeft, HasResultAt, digest_told};
+ghost use Rattle.session.specs.Work.{AreLeft, HasResultAt};
 
 use crate::{LaneRun, Order, Place};
 use hall::Plan;

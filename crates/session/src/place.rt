@@ -79,16 +79,8 @@ impl<M: Medium> Place<M> {
             (pair_of self.new.controller run.old.script.lane) }
         ensures more { HasMore 384 events.old events.new }
     {
-        let at = usize::from(run.script.lane.get()) - 1;
-        let windows = self.ram.windows();
-        plan_lane(
-            script,
-            run,
-            &mut self.controller,
-            &mut windows[at],
-            plan,
-            events,
-        );
+        let window = self.ram.window_mut(run.script.lane);
+        plan_lane(script, run, &mut self.controller, window, plan, events);
     }
 
     /// Does a piece, the one of this number of its lane's. Its entry is the only one of its shelf then.
@@ -100,10 +92,9 @@ impl<M: Medium> Place<M> {
             ≡ record { lane = piece.now.lane; index = index; ticket = 0; result = result } ∷ [] }
     {
         self.namespace.clear_at(piece.span.first);
-        let at = usize::from(piece.lane.get()) - 1;
-        let windows = self.ram.windows();
+        let window = self.ram.window_mut(piece.lane);
         self.controller
-            .serve_serial(piece, index, 0, &mut self.namespace, &mut windows[at])
+            .serve_serial(piece, index, 0, &mut self.namespace, window)
     }
 
     /// Posts the completions of a lane's fetched commands, whose pieces are all done.
@@ -121,8 +112,7 @@ impl<M: Medium> Place<M> {
         ensures seat { IsSameButSeat run.old.script.lane self.old self.new }
         ensures more { HasMore 64 events.old events.new }
     {
-        let at = usize::from(run.script.lane.get()) - 1;
-        let windows = self.ram.windows();
-        post_lane(script, run, &mut self.controller, &mut windows[at], events);
+        let window = self.ram.window_mut(run.script.lane);
+        post_lane(script, run, &mut self.controller, window, events);
     }
 }

@@ -3,8 +3,8 @@ ghost use Rattle.std.specs.Prelude.{◌≡◌, ◌+◌, ◌*◌, ◌≤◌, ◌+
 ghost use Rattle.nvm_model.specs.ScriptText.{IsHead};
 ghost use Rattle.nvm_model.specs.Turn.{InLanes, PostsAll};
 ghost use Rattle.nvm_model.specs.World.{Lane};
-ghost use Rattle.controller.specs.Pair.{pair_of, post_line};
-ghost use Rattle.session.specs.LaneParts.{HasMore, IsFree, IsSameButPair, IsSeat, Leads, seat_of};
+ghost use Rattle.controller.specs.Pair.{IsSameButPair, pair_of, post_line};
+ghost use Rattle.session.specs.LaneParts.{HasMore, IsFree, IsSeat, Leads, seat_of};
 ghost use Rattle.session.specs.Lanes.{Stands};
 ghost use Rattle.session.specs.Phases.{AreDone, Fit, HasPlan};
 ghost use Rattle.session.specs.Place.{AreQuiet, StandsFor};

@@ -3,7 +3,7 @@ ghost use Rattle.std.specs.Prelude.{◌≡◌, ◌≤◌, ◌++◌, [], IfOk, On
 ghost use Rattle.mig_base.specs.Count.{HasCause};
 ghost use Rattle.mig_base.specs.Stream.{IsCut, Writes};
 ghost use Rattle.nvm_model.specs.Text.{line_text, text_of};
-ghost use Rattle.session.specs.Waiting.{Waits};
+ghost use Rattle.mig_base.specs.Stream.{Waits};
 
 use bytes::BytesMut;
 use mig_base::{Failed, OutOfMemory, Sink, send};

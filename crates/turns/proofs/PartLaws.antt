@@ -9,7 +9,9 @@ use Rattle.nvm_model.specs.declared.line.Line.{Line}
 use Rattle.nvm_model.specs.declared.line.Line.TheVariants as line
 use Rattle.nvm_model.specs.declared.script.Act.{Act}
 use Rattle.nvm_model.specs.declared.script.Act.TheVariants.{Idle}
+use Rattle.nvm_model.specs.declared.script.Head.{Head}
 use Rattle.nvm_model.specs.declared.script.Script.{Script}
+use Rattle.nvm_model.specs.Ring.{lane_window, lane_windows}
 use Rattle.nvm_model.specs.Event.{DoesAct, MayDo, pages_after_act, submitted_by}
 use Rattle.nvm_model.specs.ScriptText.{IsSet}
 use Rattle.nvm_model.specs.Turn.{ActsOn, InLanes, IsIdle, NoneLegal}
@@ -183,3 +185,14 @@ at_rest_from s k (lane ∷ lanes) each = (
 pub served_from : (s : Script) (k : ℕ) (lanes : List Lane) → ((j : ℕ) → k ≤ j → j < k + length lanes → IsSet (set_of s.head j)) → AreServed s k lanes
 served_from s k [] each = tt
 served_from s k (lane ∷ lanes) each = (record { set = each k (omega arith) (omega arith) }, served_from s (k + 1) lanes (λ j later there. each j (omega (arith, later)) (omega (arith, there))))
+
+pub windows_from : (head : Head) (k : ℕ) (windows : List (List (List ℕ))) (lanes : List Lane) → length windows ≡ length lanes →
+    ((j : ℕ) → k ≤ j → j < k + length lanes → slice_index_or windows (j - k) [] ≡ lane_window head j (slice_index_or lanes (j - k) (new_lane 0))) → windows ≡ lane_windows head k lanes
+windows_from head k [] [] same each = refl
+windows_from head k [] (lane ∷ lanes) same each = absurd (omega (arith, same))
+windows_from head k (window ∷ windows) [] same each = absurd (omega (arith, same))
+windows_from head k (window ∷ windows) (lane ∷ lanes) same each =
+    let first : window ≡ lane_window head k lane = sym (first_of k window windows []) ∙ each k (omega arith) (omega arith) ∙ ap (lane_window head k) (first_of k lane lanes (new_lane 0)) in
+    let others = windows_from head (k + 1) windows lanes (omega (arith, same)) (λ j later there.
+    sym (later_of k j window windows [] later) ∙ each j (omega (arith, later)) (omega (arith, there)) ∙ ap (lane_window head j) (later_of k j lane lanes (new_lane 0) later)) in
+    ap (λ (pages : List (List ℕ)). pages ∷ windows) first ∙ ap (λ (all : List (List (List ℕ))). lane_window head k lane ∷ all) others

@@ -1,8 +1,8 @@
-use Rattle.std.proofs.Common.{◌≡◌, ◌==◌, ℕ, suc, ◌+◌, ◌*◌, ◌-◌, ◌<◌, ◌≤◌, Bool, true, false, cond, List, [], ◌∷◌, length, take, filter, map, sum, refl, sym, subst, ◌∙◌, arith}
+use Rattle.std.proofs.Common.{◌≡◌, ◌==◌, ℕ, suc, ◌+◌, ◌*◌, ◌-◌, ◌<◌, ◌≤◌, Bool, true, false, cond, List, [], ◌∷◌, length, take, filter, map, slice_index_or, sum, refl, sym, ap, subst, ◌∙◌, arith}
 use Rattle.std.specs.List.{AllByRecursion}
 use borrow.Author.Tests.{eqb-true}
 use Rattle.std.proofs.Math.Nat.{zero-mod}
-use Rattle.std.proofs.lemmas.List.{get_or-take, length-map, length-take-le}
+use Rattle.std.proofs.lemmas.List.{get_or-map, get_or-take, get_or_default, length-map, length-take-le}
 use Rattle.std.proofs.lemmas.List.Elements.{All-from_recursion, All-get_or}
 use Rattle.std.proofs.lemmas.List.Sums.{sum_by-cons}
 use Rattle.nvm_model.specs.declared.line.Line.{Line}
@@ -47,6 +47,16 @@ set_fits h k head low high =
     subst IsSet (get_or-take h.lanes h.sets (k - 1) none (omega arith))
     (All-get_or IsSet (take h.lanes h.sets) (k - 1) none there (All-from_recursion IsSet (take h.lanes h.sets) head.sets.1))
 
+-- as many sets as lanes
+pub count_sets : (h : Head) → IsHead h → length (take h.lanes h.sets) ≡ h.lanes
+count_sets h head = length-take-le h.lanes h.sets (omega (arith, head.sets.0, head.lanes.1))
+
+-- a look-up within the list of lanes' sizes
+pub set_at : (h : Head) (k : ℕ) (d : LaneSet) → IsHead h → 1 ≤ k → k ≤ h.lanes → slice_index_or (take h.lanes h.sets) (k - 1) d ≡ set_of h k
+set_at h k d head first few =
+    let none : LaneSet = record { sq = 0; cq = 0; pages = 0 } in
+    get_or_default (take h.lanes h.sets) (k - 1) d none (omega (arith, count_sets h head, first, few)) ∙ get_or-take h.lanes h.sets (k - 1) none (omega (arith, first, few))
+
 -- lanes have few window pages
 few_sets : (sets : List LaneSet) → AllByRecursion IsSet sets → sum (map (λ (set : LaneSet). set.pages + 2) sets) ≤ length sets * 258
 few_sets [] fit = omega arith
@@ -54,12 +64,14 @@ few_sets (set ∷ sets) fit =
     let others = map (λ (s : LaneSet). s.pages + 2) sets in
     omega (arith, fit.0.5, few_sets sets fit.1, sum_by-cons (λ (n : ℕ). n) (set.pages + 2) others)
 
--- as many sets as lanes
-count_sets : (h : Head) → IsHead h → length (take h.lanes h.sets) ≡ h.lanes
-count_sets h head = length-take-le h.lanes h.sets (omega (arith, head.sets.0, head.lanes.1))
-
 pub few_pages : (h : Head) → IsHead h → window_pages h ≤ 2064
 few_pages h head = omega (arith, few_sets (take h.lanes h.sets) head.sets.1, count_sets h head, head.lanes.1)
+
+-- the lane with a number at the start
+pub start_at : (s : Script) (k : ℕ) (e : Lane) → IsHead s.head → 1 ≤ k → k ≤ s.head.lanes → slice_index_or (start_lanes s) (k - 1) e ≡ new_lane (set_of s.head k).pages
+start_at s k e head first few =
+    let none : LaneSet = record { sq = 0; cq = 0; pages = 0 } in
+    get_or-map (λ (set : LaneSet). new_lane set.pages) (take s.head.lanes s.head.sets) (k - 1) none e (omega (arith, count_sets s.head head, first, few)) ∙ ap (λ (set : LaneSet). new_lane set.pages) (set_at s.head k none head first few)
 
 pub start_count : (s : Script) → IsHead s.head → length (start_lanes s) ≡ s.head.lanes
 start_count s head = length-map (take s.head.lanes s.head.sets) (λ (set : LaneSet). new_lane set.pages) ∙ count_sets s.head head

@@ -15,7 +15,7 @@ piece-done-requires g c =
     let has = c.requires.has in
     let fits = piece_fits c.args.at has c.requires.left c.next_piece-piece.ensures in
     record {
-      lane = omega (arith, fits.0, c.requires.left.there, has.fit.at.windows.count);
+      lane = (omega (arith, fits.0), omega (arith, fits.0, c.requires.left.there, has.fit.at.windows.count));
       fits = fits.1;
       rooms = (omega (arith, has.fit.at.namespace.shelf, has.fit.head.shelf.0), has.fit.at.namespace.rooms);
       few = omega (arith, has.fit.at.namespace.blocks, has.fit.head.blocks.1);
@@ -37,4 +37,4 @@ returns-clause-works g c = λ h over may.
 pub returns-clause-has : goal.returns-clause-has
 returns-clause-has g c =
     let fits = piece_fits c.args.at c.requires.has c.requires.left c.next_piece-piece.ensures in
-    plan_after c.args.at (omega (arith, fits.0)) c.piece-done.ensures.done c.push_result.ensures c.requires.has
+    plan_after c.args.at fits.0 c.requires.left.there c.piece-done.ensures.done c.push_result.ensures c.requires.has

@@ -1,9 +1,10 @@
 use Rattle.std.proofs.Common.{◌≡◌, ◌+◌, ◌<◌, ℕ, List, map, refl, sym, ap, ◌∙◌, arith}
 use Rattle.nvm_model.specs.Turn.{left_in, next_lane}
 use Rattle.session.specs.Lanes.{HasWords}
-use Rattle.session.proofs.OrderLemmas.{all_done, has_words, left_at, left_few, left_less, sum_less, sum_none, words_of, works_more, works_none, works_to}
-use Rattle.session.proofs.WorkLemmas.{element_at, lefts_are}
+use Rattle.session.proofs.OrderLemmas.{all_done, has_words, left_at, left_few, left_less, words_of, works_more, works_none, works_to}
+use Rattle.session.proofs.WorkLemmas.{lefts_are}
 use Rattle.session.proofs.pieces.do_pieces.Goals as goal
+use Rattle.mig_base.proofs.ListLemmas.{element_at, sum_less, sum_none}
 
 pub pieces-init : goal.pieces-init
 pieces-init g c = record {

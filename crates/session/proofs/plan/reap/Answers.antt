@@ -4,8 +4,9 @@ use Rattle.nvm_model.specs.World.{set_of}
 use Rattle.lanes.specs.Guest.{GuestState}
 use Rattle.turns.specs.Parts.{ReapsSome}
 use Rattle.session.specs.LaneParts.{Leads, StandsFree, seat_of}
-use Rattle.session.proofs.LanePartLemmas.{guest_step, pair_stepped, reap_none, reap_some, run_set, rung_commands}
+use Rattle.session.proofs.LanePartLemmas.{guest_step, reap_none, reap_some, run_set}
 use Rattle.session.proofs.plan.reap.Goals as goal
+use Rattle.controller.proofs.PairLemmas.{pair_stepped, rung_commands}
 
 pub returns-in-Some-clause-reaps : goal.returns-in-Some-clause-reaps
 returns-in-Some-clause-reaps c = λ l free.

@@ -1,4 +1,4 @@
-use Rattle.std.proofs.Common.{◌≡◌, ◌*◌, ◌-◌, ◌≤◌, ◌<◌, ℕ, List, [], slice_index_or}
+use Rattle.std.proofs.Common.{◌≡◌, ◌*◌, ◌-◌, ◌≤◌, ℕ, List, slice_index_or}
 use Rattle.nvm_model.specs.Turn.{PostsAll}
 use Rattle.nvm_model.specs.World.{Lane}
 use Rattle.controller.specs.Pair.{pair_of}
@@ -6,8 +6,8 @@ use Rattle.session.specs.declared.lane_run.LaneRun.{LaneRun}
 use Rattle.session.specs.LaneParts.{HasMore, Leads}
 use Rattle.session.specs.Phases.{Fit}
 use Rattle.session.specs.Place.{StandsFor}
-use Rattle.session.specs.Work.{MayPost}
 use Rattle.turns.specs.Parts.{SoFar}
+use Rattle.session.proofs.AllLanesLemmas.{PostedTo}
 use Rattle.session.proofs.posts.post_all.Given as goal
 
 abbrev pub invariant-loop-at : goal.invariant-loop-at
@@ -15,9 +15,7 @@ invariant-loop-at g l = record {
   leads : (lanes : List Lane) → StandsFor l.script l.fn.runs.items l.fn.place.controller l.fn.place.windows lanes
       → Leads (SoFar (PostsAll l.script) l.at) (StandsFor l.script l.runs.items l.place.controller l.place.windows) lanes l.fn.events.items l.events.items;
   fit : Fit l.script l.runs.items l.place;
-  may : (k : ℕ) (d : LaneRun) → 1 ≤ k → k ≤ l.script.head.lanes → l.at < k → MayPost l.script k (slice_index_or l.runs.items (k - 1) d) (pair_of l.place.controller k);
-  commands : (k : ℕ) → 1 ≤ k → k ≤ l.script.head.lanes → k ≤ l.at → (pair_of l.place.controller k).commands ≡ [];
-  results : (k : ℕ) (d : LaneRun) → 1 ≤ k → k ≤ l.script.head.lanes → k ≤ l.at → (slice_index_or l.runs.items (k - 1) d).results.items ≡ [];
+  each : (k : ℕ) (d : LaneRun) → 1 ≤ k → k ≤ l.script.head.lanes → PostedTo l.script l.at k (slice_index_or l.runs.items (k - 1) d) (pair_of l.place.controller k);
   namespace : l.place.namespace ≡ l.fn.place.namespace;
   more : HasMore (64 * l.at) l.fn.events l.events;
 }

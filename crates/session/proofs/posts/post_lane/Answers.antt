@@ -9,8 +9,10 @@ use Rattle.controller.specs.Pair.{ended, outcomes_of, pair_of, post_line, told_p
 use Rattle.controller.proofs.StepLemmas.{HasKept, posted_few, posts_kept}
 use Rattle.session.specs.LaneParts.{Leads}
 use Rattle.session.specs.Lanes.{Stands}
-use Rattle.session.proofs.LanePartLemmas.{pair_stepped, pieces_told, posts_lane, run_set, stands_control}
+use Rattle.session.proofs.LanePartLemmas.{posts_lane, run_set, stands_control}
 use Rattle.session.proofs.posts.post_lane.Goals as goal
+use Rattle.controller.proofs.PairLemmas.{pair_stepped}
+use Rattle.controller.proofs.NextLemmas.{pieces_told}
 
 pub finish_turn-requires-clause-results : goal.finish_turn-requires-clause-results
 finish_turn-requires-clause-results c =

@@ -1,7 +1,7 @@
 use Rattle.std.proofs.Common.{◌∙◌, arith, rules}
 use Rattle.controller.specs.Pair.{post_line}
-use Rattle.session.proofs.LanePartLemmas.{pushed_all, pushed_more}
 use Rattle.session.proofs.posts.push_posts.Goals as goal
+use Rattle.mig_base.proofs.ListLemmas.{pushed_all, pushed_more}
 
 pub loop-told-preserved : goal.loop-told-preserved
 loop-told-preserved c = record {

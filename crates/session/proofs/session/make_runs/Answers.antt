@@ -1,7 +1,7 @@
 use Rattle.std.proofs.Common.{◌≡◌, ◌+◌, ◌<◌, ◌++◌, ◌∷◌, [], ℕ, List, Option, IfSome, length, slice_index_or, subst, sym, ap, ◌∙◌, arith}
 use Rattle.session.specs.declared.lane_run.LaneRun.{LaneRun}
 use Rattle.session.specs.Lanes.{IsNewRun, IsRunOf}
-use Rattle.session.proofs.LaneLemmas.{each_pushed}
+use Rattle.mig_base.proofs.ListLemmas.{each_pushed}
 use Rattle.session.proofs.session.make_runs.Goals as goal
 
 pub loop-at-preserved : goal.loop-at-preserved

@@ -2,7 +2,7 @@ use Rattle.std.proofs.Common.{◌≡◌, ◌+◌, ℕ, List, [], length, set, ta
 use Rattle.guest_ram.specs.Ram.{all_pages}
 use Rattle.guest_ram.specs.Window.{WindowState}
 use Rattle.session.specs.Place.{pages_of}
-use Rattle.session.proofs.MemoryLemmas.{one_copied, as_many_pages, all_pages_copied}
+use Rattle.guest_ram.proofs.Copied.{one_copied, as_many_pages, all_pages_copied}
 use Rattle.session.proofs.place.moving.copy_pages.Goals as goal
 
 pub put_page-requires : goal.put_page-requires

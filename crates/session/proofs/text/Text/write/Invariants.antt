@@ -1,6 +1,6 @@
 use Rattle.std.proofs.Common.{◌≤◌, take}
 use Rattle.nvm_model.specs.Text.{text_of}
-use Rattle.session.specs.Waiting.{Waits}
+use Rattle.mig_base.specs.Stream.{Waits}
 use Rattle.session.proofs.text.Text.write.Given as goal
 
 abbrev pub invariant-lines : goal.invariant-lines
