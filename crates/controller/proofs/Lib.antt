@@ -4,5 +4,6 @@ pub mod LaneLemmas
 pub mod NextLemmas
 pub mod PairLemmas
 pub mod PlanLemmas
+pub mod ShelfLemmas
 pub mod StepLemmas
 pub mod WorkLemmas

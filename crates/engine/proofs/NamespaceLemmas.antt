@@ -38,17 +38,17 @@ all_of_size size (m ∷ media) (suc n) shelf same =
     tail_is : {a b : ℕ} {xs ys : List ℕ} → ◌≡◌ {A = List ℕ} (a ∷ xs) (b ∷ ys) → xs ≡ ys
     tail_is e = cc
 
-all_replicated : (room n : ℕ) → 64 ≤ room → All (λ (r : ℕ). 64 ≤ r) (replicate n room)
-all_replicated room zero large = λ i d there. absurd (omega (arith, there))
-all_replicated room (suc n) large = All-cons (λ (r : ℕ). 64 ≤ r) room (replicate n room) large (all_replicated room n large)
+all_replicated : (room n : ℕ) → All (λ (r : ℕ). room ≤ r) (replicate n room)
+all_replicated room zero = λ i d there. absurd (omega (arith, there))
+all_replicated room (suc n) = All-cons (λ (r : ℕ). room ≤ r) room (replicate n room) (omega arith) (all_replicated room n)
 
 -- a namespace that was made of them is the script's
 pub is_namespace : {M : Type 0} (size : M → ℕ) (head : Head) (media : List M) (n : NamespaceState M) → IsHead head → map size media ≡ replicate (head.blocks / head.shelf) head.shelf →
-    media_of n ≡ media → n.shelf ≡ head.shelf → rooms_of n ≡ replicate (length media) 64 → IsNamespaceOf head n
+    media_of n ≡ media → n.shelf ≡ head.shelf → rooms_of n ≡ replicate (length media) (head.burst * head.lanes) → IsNamespaceOf head n
 is_namespace {M} size head media n is sizes same shelf rooms =
     let count : length n.shelves ≡ head.blocks / head.shelf = sym (length-map n.shelves (λ (s : ShelfState M). s.medium)) ∙ ap (λ (l : List M). length l) same ∙ as_many size media (head.blocks / head.shelf) head.shelf sizes in
     record {
       shelf = shelf;
       blocks = ap (λ (k : ℕ). k * n.shelf) count ∙ ap (λ (s : ℕ). head.blocks / head.shelf * s) shelf ∙ whole_shelves head is;
-      rooms = subst (λ (l : List ℕ). All (λ (r : ℕ). 64 ≤ r) l) (sym rooms) (all_replicated 64 (length media) (omega arith));
+      rooms = subst (λ (l : List ℕ). All (λ (r : ℕ). head.burst * head.lanes ≤ r) l) (sym rooms) (all_replicated (head.burst * head.lanes) (length media));
     }

@@ -18,9 +18,6 @@ use session::Place;
 use std::alloc::Global;
 use std::mem::replace;
 
-/// The most pieces that a command has: one for each shelf that it touches.
-const MOST_PIECES: usize = 64;
-
 /// The first size of a host that differs from what is asked: what it has, and what is asked.
 pub(crate) fn host_difference<M: Medium>(
     host: &Host<M>,
@@ -113,7 +110,9 @@ fn take_namespace<M: Medium>(
     ensures ram { host.new.ram ≡ host.old.ram }
 {
     let media = replace(&mut host.shelves, Vec::new(alloc));
-    match Namespace::make(alloc, media, head.shelf, MOST_PIECES) {
+    // A turn's commands have at most one piece each in a shelf.
+    let room = head.burst as usize * usize::from(head.lanes);
+    match Namespace::make(alloc, media, head.shelf, room) {
         Ok(namespace) => {
             namespace.has_sizes();
             Ok(namespace)

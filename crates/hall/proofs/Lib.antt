@@ -1,1 +1,2 @@
+pub mod AheadLaws
 pub mod PlanLemmas

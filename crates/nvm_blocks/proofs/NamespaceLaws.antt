@@ -1,17 +1,21 @@
 use Rattle.std.specs.Prelude.{IfSome, OnErr, OnOk, is_err}
-use Rattle.std.proofs.Common.{◌≡◌, ℕ, ◌+◌, ◌/◌, ◌%◌, Bool, cond, List, [], ◌∷◌, Option, Some, None, Result, Ok, Err, length, map, set, refl, sym, ap, subst, ◌∙◌, ◌<◌, ◌≤◌, ◌++◌, All, get_or, get_or-set_same, length-set, arith}
+use Rattle.std.proofs.Common.{◌≡◌, ℕ, ◌+◌, ◌/◌, ◌%◌, Bool, cond, List, [], ◌∷◌, Option, Some, None, Result, Ok, Err, length, map, set, refl, sym, ap, subst, ◌∙◌, ◌<◌, ◌≤◌, ◌++◌, All, get_or, get_or-set_same, length-set, arith, ◌==◌, ◌-◌, ◌*◌, ⊎_elim, eq-eqb, ne_eqb}
 use Rattle.std.proofs.Math.Nat.{div-lt_iff_lt-mul}
 use Rattle.std.proofs.lemmas.Nat.{div-add-mod'}
 use Rattle.std.specs.List.{range_with_len}
-use Rattle.std.proofs.lemmas.List.{get_or-map, length-map, map-set, set-get_or}
-use Rattle.mig_base.specs.Count.{HaveCause, RiseBy}
+use Rattle.std.proofs.lemmas.List.{get_or-map, length-map, map-set, set-get_or, get_or-set_other, get_or_past, get_or_push, length_push}
+use Rattle.mig_base.specs.Count.{HaveCause, RiseBy, NeverFall}
+use Rattle.std.proofs.lemmas.Bool.{cases_eq, cases_lt}
+use Rattle.nvm_model.specs.declared.piece.Piece.{Piece}
+use Rattle.nvm_model.specs.declared.piece.PieceResult.{PieceResult}
 use Rattle.nvm_model.specs.declared.piece.ShelfEntry.{ShelfEntry}
 use Rattle.nvm_model.specs.declared.trace.Step.{Step}
 use Rattle.nvm_model.specs.Chain.{Chain}
 use Rattle.nvm_model.specs.Medium.{At, Effect, IsAt, MediumState, StayTold, faults_in, flat_call, got, marked, marks_at, sent}
 use Rattle.nvm_model.specs.Piece.{block_at}
-use Rattle.nvm_model.proofs.MediaLemmas.{counts_rise, flat_calls, told_map}
-use Rattle.nvm_blocks.specs.Namespace.{HasCalled, HasRoom, IsClearedAt, NamespaceState, block_count, entries_of, faults_of, media_of, rooms_of, told_of, with_entry}
+use Rattle.nvm_model.proofs.MediaLemmas.{counts_rise, flat_calls, told_map, failures_of, piece_told}
+use Rattle.nvm_blocks.specs.Namespace.{HasCalled, HasRoom, IsClearedAt, NamespaceState, block_count, entries_of, faults_of, media_of, rooms_of, told_of, with_entry, Enters, HasAppliedIn, IsSameButEntries, SameShelves, entries_at}
+use Rattle.nvm_model.specs.Trace.{piece_calls}
 use Rattle.nvm_blocks.specs.ShelfState.{ShelfState}
 
 -- What the calls of a namespace's media come to, for its told blocks and for its counts of failed calls.
@@ -114,29 +118,99 @@ was_marked {state = state} {moves} {n} {new} mark h =
       marks_count state moves mark shelves (media_of n) (media_of new) h.made,
     )
 
+-- Namespaces of the same shelves.
+
+pub same_stay : {M : Type 0} (n : NamespaceState M) → SameShelves n n
+same_stay n = record { shelf = refl; count = refl; rooms = refl }
+
+pub same_more : {M : Type 0} {a b c : NamespaceState M} → SameShelves a b → SameShelves b c → SameShelves a c
+same_more x y = record { shelf = y.shelf ∙ x.shelf; count = y.count ∙ x.count; rooms = y.rooms ∙ x.rooms }
+
+-- calls of its media leave a namespace's shelves
+pub called_same : {M I : Type 0} {state : M → MediumState I} {moves : I → Step → Bool → I → Type 0} {n new : NamespaceState M} {calls : List At} → HasCalled state moves n calls new → SameShelves n new
+called_same called = record { shelf = called.shelf; count = as_many_shelves called; rooms = called.rooms }
+
+-- and so does dropping the entries of one
+cleared_shelves : {M : Type 0} {b : ℕ} {n new : NamespaceState M} → IsClearedAt b n new → SameShelves n new
+cleared_shelves {M} {n = n} {new} is = record {
+  shelf = is.shelf;
+  count = sym (length-map new.shelves (λ (s : ShelfState M). s.room)) ∙ ap length is.rooms ∙ length-map n.shelves (λ (s : ShelfState M). s.room);
+  rooms = is.rooms;
+}
+
+-- as many blocks
+pub same_count : {M : Type 0} {n new : NamespaceState M} → SameShelves n new → block_count new ≡ block_count n
+same_count {n = n} {new} same = ap (λ (k : ℕ). k * new.shelf) same.count ∙ ap (λ (k : ℕ). length n.shelves * k) same.shelf
+
 -- Its shelves' entries.
 
--- a shelf whose entries were dropped has room for one
-pub cleared_room : {M : Type 0} (n : NamespaceState M) {new : NamespaceState M} (b m : ℕ) → IsClearedAt b n new → 1 ≤ n.shelf → b < block_count n → 1 ≤ m → All (λ (room : ℕ). m ≤ room) (rooms_of n) → HasRoom new (b / new.shelf)
-cleared_room {M} n {new} b m is large inside some rooms =
-    let i = b / n.shelf in
-    let there : i < length n.shelves = (div-lt_iff_lt-mul large).1 inside in
-    let count : length (rooms_of n) ≡ length n.shelves = length-map n.shelves (λ (s : ShelfState M). s.room) in
+-- a shelf that has room for an entry is there
+there_of : {M : Type 0} (n : NamespaceState M) (i : ℕ) → HasRoom n i → i < length (entries_of n)
+there_of {M} n i room =
+    let rooms : length (rooms_of n) ≡ length n.shelves = length-map n.shelves (λ (s : ShelfState M). s.room) in
     let entries : length (entries_of n) ≡ length n.shelves = length-map n.shelves (λ (s : ShelfState M). s.entries) in
-    let room = rooms i 0 (omega (arith, there, count)) in
-    let none : get_or (entries_of new) i [] ≡ [] = ap (λ (es : List (List ShelfEntry)). get_or es i []) is.entries ∙ get_or-set_same (entries_of n) i [] [] (omega (arith, there, entries)) in
-    let own : HasRoom new i = subst (λ (rs : List ℕ). length (get_or (entries_of new) i []) < get_or rs i 0) (sym is.rooms) (omega (arith, ap (λ (es : List ShelfEntry). length es) none, room, some)) in
-    subst (λ (shelf : ℕ). HasRoom new (b / shelf)) (sym is.shelf) own
+    ⊎_elim (λ (low : i < length (rooms_of n)). omega (arith, low, rooms, entries)) (λ past. absurd (omega (arith, room, get_or_past (rooms_of n) i 0 past))) (cases_lt i (length (rooms_of n)))
 
--- where one was added then it is the only one
-pub entry_there : {M : Type 0} (n : NamespaceState M) {clear : NamespaceState M} (new : NamespaceState M) (b : ℕ) (entry : ShelfEntry) → IsClearedAt b n clear → 1 ≤ n.shelf → b < block_count n → entries_of new ≡ with_entry (b / clear.shelf) entry (entries_of clear) →
-    get_or (entries_of new) (b / n.shelf) [] ≡ entry ∷ []
-entry_there {M} n {clear} new b entry is large inside added =
-    let i = b / n.shelf in
-    let there : i < length n.shelves = (div-lt_iff_lt-mul large).1 inside in
-    let entries : length (entries_of n) ≡ length n.shelves = length-map n.shelves (λ (s : ShelfState M). s.entries) in
-    let low : i < length (entries_of n) = omega (arith, there, entries) in
-    let count : length (entries_of clear) ≡ length (entries_of n) = ap (λ (es : List (List ShelfEntry)). length es) is.entries ∙ length-set (entries_of n) i [] in
-    let none : get_or (entries_of clear) i [] ≡ [] = ap (λ (es : List (List ShelfEntry)). get_or es i []) is.entries ∙ get_or-set_same (entries_of n) i [] [] low in
-    let own : entries_of new ≡ with_entry i entry (entries_of clear) = subst (λ (shelf : ℕ). entries_of new ≡ with_entry (b / shelf) entry (entries_of clear)) is.shelf added in
-    ap (λ (es : List (List ShelfEntry)). get_or es i []) own ∙ get_or-set_same (entries_of clear) i _ [] (omega (arith, low, count)) ∙ ap (λ (es : List ShelfEntry). es ++ entry ∷ []) none
+-- an entry more stands behind those that were there
+entered_at : {M : Type 0} {n new : NamespaceState M} {b : ℕ} {entry : ShelfEntry} → Enters b entry n new → HasRoom n (b / n.shelf) → entries_at new b ≡ entries_at n b ++ entry ∷ []
+entered_at {n = n} {new} {b} is room =
+    ap (λ (k : ℕ). get_or (entries_of new) (b / k) []) is.shelf ∙ ap (λ (es : List (List ShelfEntry)). get_or es (b / n.shelf) []) is.entries ∙ get_or-set_same (entries_of n) (b / n.shelf) _ [] (there_of n (b / n.shelf) room)
+
+-- a piece that was done leaves one
+pub applied_enters : {M I : Type 0} {state : M → MediumState I} {moves : I → Step → Bool → I → Type 0} {piece : Piece} {result : PieceResult} {n new : NamespaceState M} {memory new_memory : List (List ℕ)} {entry : ShelfEntry} →
+    HasAppliedIn state moves piece result n memory new new_memory → entries_of new ≡ with_entry (piece.span.first / n.shelf) entry (entries_of n) → Enters piece.span.first entry n new
+applied_enters applied entries = record { shelf = applied.called.shelf; entries = entries }
+
+-- so there is one, and it is the last
+pub entered_some : {M : Type 0} {n new : NamespaceState M} {b : ℕ} {entry : ShelfEntry} → Enters b entry n new → HasRoom n (b / n.shelf) → entries_at new b ≡ [] → ⊥
+entered_some {n = n} {b = b} {entry} is room none = omega (arith, ap length (sym (entered_at is room) ∙ none), length_push (entries_at n b) entry)
+
+pub entered_last : {M : Type 0} {n new : NamespaceState M} {b : ℕ} {entry : ShelfEntry} (d : ShelfEntry) → Enters b entry n new → HasRoom n (b / n.shelf) → d ≡ get_or (entries_at new b) (length (entries_at new b) - 1) d → d ≡ entry
+entered_last {n = n} {new} {b} {entry} d is room last =
+    let now = entered_at is room in
+    let before : length (entries_at n b) ≡ length (entries_at new b) - 1 = omega (arith, ap length now, length_push (entries_at n b) entry) in
+    last ∙ ap (λ (es : List ShelfEntry). get_or es (length (entries_at new b) - 1) d) now ∙ get_or_push (entries_at n b) entry d (length (entries_at new b) - 1) before
+
+-- how many there are in each shelf
+pub entered_count : {M : Type 0} {n new : NamespaceState M} {b : ℕ} {entry : ShelfEntry} (i : ℕ) → Enters b entry n new → HasRoom n (b / n.shelf) → length (get_or (entries_of new) i []) ≡ length (get_or (entries_of n) i []) + cond (b / n.shelf == i) 1 0
+entered_count {n = n} {b = b} {entry} i is room =
+    let at = b / n.shelf in
+    let one : Bool → ℕ = λ y. cond y 1 0 in
+    let now = ap (λ (es : List (List ShelfEntry)). length (get_or es i [])) is.entries in
+    ⊎_elim (λ (here : at ≡ i).
+    let own : get_or (with_entry at entry (entries_of n)) i [] ≡ get_or (entries_of n) i [] ++ entry ∷ [] =
+    ap (λ (j : ℕ). get_or (with_entry at entry (entries_of n)) j []) (sym here) ∙ get_or-set_same (entries_of n) at _ [] (there_of n at room) ∙ ap (λ (j : ℕ). get_or (entries_of n) j [] ++ entry ∷ []) here in
+    omega (arith, now, ap length own, length_push (get_or (entries_of n) i []) entry, ap one (eq-eqb at i here)))
+    (λ (other : at ≡ i → ⊥).
+    let own : get_or (with_entry at entry (entries_of n)) i [] ≡ get_or (entries_of n) i [] = get_or-set_other (entries_of n) at i _ [] (λ is_here. other (sym is_here)) in
+    omega (arith, now, ap length own, ap one (ne_eqb at i other)))
+    (cases_eq at i)
+
+-- what was dropped isn't there, and nothing came
+cleared_here : {M : Type 0} {n new : NamespaceState M} (b : ℕ) → IsClearedAt b n new → get_or (entries_of new) (b / n.shelf) [] ≡ []
+cleared_here {n = n} b is =
+    let at = b / n.shelf in
+    ap (λ (es : List (List ShelfEntry)). get_or es at []) is.entries
+    ∙ ⊎_elim (λ low. get_or-set_same (entries_of n) at [] [] low) (λ past. get_or_past (set (entries_of n) at []) at [] (omega (arith, past, length-set (entries_of n) at []))) (cases_lt at (length (entries_of n)))
+
+pub cleared_at : {M : Type 0} {n new : NamespaceState M} (b : ℕ) → IsClearedAt b n new → entries_at new b ≡ []
+cleared_at {n = n} {new} b is = ap (λ (k : ℕ). get_or (entries_of new) (b / k) []) is.shelf ∙ cleared_here b is
+
+cleared_stays : {M : Type 0} {n new : NamespaceState M} (b i : ℕ) → IsClearedAt b n new → get_or (entries_of n) i [] ≡ [] → get_or (entries_of new) i [] ≡ []
+cleared_stays {n = n} {new} b i is none = ⊎_elim
+    (λ (here : i ≡ b / n.shelf). subst (λ (j : ℕ). get_or (entries_of new) j [] ≡ []) (sym here) (cleared_here b is))
+    (λ (other : i ≡ b / n.shelf → ⊥). ap (λ (es : List (List ShelfEntry)). get_or es i []) is.entries ∙ get_or-set_other (entries_of n) (b / n.shelf) i [] [] other ∙ none)
+    (cases_eq i (b / n.shelf))
+
+pub entries_same : {M : Type 0} (n : NamespaceState M) → IsSameButEntries n n
+entries_same n = record { media = refl; shelves = same_stay n; none = λ i none. none }
+
+pub entries_more : {M : Type 0} {a b c : NamespaceState M} → IsSameButEntries a b → IsSameButEntries b c → IsSameButEntries a c
+entries_more x y = record { media = y.media ∙ x.media; shelves = same_more x.shelves y.shelves; none = λ i none. y.none i (x.none i none) }
+
+pub entries_cleared : {M : Type 0} {n new : NamespaceState M} (b : ℕ) → IsClearedAt b n new → IsSameButEntries n new
+entries_cleared b is = record { media = is.media; shelves = cleared_shelves is; none = λ i none. cleared_stays b i is none }
+
+-- a shelf that has none has none later on
+pub none_at : {M : Type 0} {n new : NamespaceState M} (b : ℕ) → IsSameButEntries n new → entries_at n b ≡ [] → entries_at new b ≡ []
+none_at {n = n} {new} b is none = ap (λ (k : ℕ). get_or (entries_of new) (b / k) []) is.shelves.shelf ∙ is.none (b / n.shelf) none

@@ -38,6 +38,10 @@ told_of state n = joined (told_in state (media_of n))
 abbrev pub faults_of : {M I : Type 0} → (M → MediumState I) → NamespaceState M → List ℕ
 faults_of state n = faults_in state (media_of n)
 
+-- those of the shelf that has block b
+abbrev pub entries_at : {M : Type 0} → NamespaceState M → ℕ → List ShelfEntry
+entries_at n b = slice_index_or (entries_of n) (b / n.shelf) []
+
 -- shelf i has one entry more
 abbrev pub with_entry : ℕ → ShelfEntry → List (List ShelfEntry) → List (List ShelfEntry)
 with_entry i entry all = slice_set all i (slice_index_or all i [] ++ entry ∷ [])
@@ -76,12 +80,29 @@ pub record HasAppliedIn {M I : Type 0} (state : M → MediumState I) (moves : I 
   pub done : IsPieceDone piece moved result memory new_memory
   pub called : HasCalled state moves n (all_at (piece.span.first / n.shelf) (piece_calls piece (piece.span.first % n.shelf) memory moved result.outcome)) new
 
+-- as many shelves as before, with the same room
+pub record SameShelves {M : Type 0} (n new : NamespaceState M) : Type 0 where
+  pub shelf : new.shelf ≡ n.shelf
+  pub count : length new.shelves ≡ length n.shelves
+  pub rooms : rooms_of new ≡ rooms_of n
+
+-- the shelf of block b has one entry more, and no other shelf
+pub record Enters {M : Type 0} (b : ℕ) (entry : ShelfEntry) (n new : NamespaceState M) : Type 0 where
+  pub shelf : new.shelf ≡ n.shelf
+  pub entries : entries_of new ≡ with_entry (b / n.shelf) entry (entries_of n)
+
 -- the shelf of block b has no entries, and nothing else changed
 pub record IsClearedAt {M : Type 0} (b : ℕ) (n new : NamespaceState M) : Type 0 where
   pub media : media_of new ≡ media_of n
   pub shelf : new.shelf ≡ n.shelf
   pub rooms : rooms_of new ≡ rooms_of n
   pub entries : entries_of new ≡ slice_set (entries_of n) (b / n.shelf) []
+
+-- entries were dropped, and beside these nothing changed
+pub record IsSameButEntries {M : Type 0} (n new : NamespaceState M) : Type 0 where
+  pub media : media_of new ≡ media_of n
+  pub shelves : SameShelves n new
+  pub none : (i : ℕ) → slice_index_or (entries_of n) i [] ≡ [] → slice_index_or (entries_of new) i [] ≡ []
 
 -- Below, what is true of every namespace.
 

@@ -1,8 +1,8 @@
-ghost use Rattle.std.specs.Prelude.{◌≡◌, ◌*◌, ◌/◌, ◌%◌, ◌<◌, ◌≤◌, [], ◌∷◌, IfErr, IfOk, IfSome, All, is_err, length, map, replicate};
+ghost use Rattle.std.specs.Prelude.{◌≡◌, ◌*◌, ◌/◌, ◌%◌, ◌<◌, ◌≤◌, ◌≢◌, ◌-◌, [], ◌∷◌, IfErr, IfOk, IfSome, All, is_err, length, map, replicate, slice_index_or};
 ghost use Rattle.nvm_values.specs.declared.op.Op.TheVariants.{Read};
 ghost use Rattle.nvm_model.specs.Medium.{HaveSize, got, marks_at, sent};
 ghost use Rattle.guest_ram.specs.Window.{data_pages};
-ghost use Rattle.nvm_blocks.specs.Namespace.{HasAppliedIn, HasCalled, HasRoom, IsClearedAt, block_call, IsForNamespace, block_count, entries_of, media_of, rooms_of, told_of, with_entry};
+ghost use Rattle.nvm_blocks.specs.Namespace.{HasAppliedIn, HasCalled, HasRoom, IsClearedAt, block_call, IsForNamespace, block_count, entries_at, entries_of, media_of, rooms_of, told_of, with_entry};
 ghost use Rattle.nvm_blocks.specs.Shelves.{cleared};
 ghost use Rattle.nvm_blocks.specs.Work.{IsSameButData};
 
@@ -12,7 +12,7 @@ use crate::Shelf;
 use guest_ram::Window;
 use mig_base::{Failed, OutOfMemory};
 use mig_medium::Medium;
-use nvm_model::{Piece, PieceResult};
+use nvm_model::{Piece, PieceResult, ShelfEntry};
 use shelves::{clear_all, make_shelves, mark_all, take_media};
 use std::alloc::Global;
 use std::marker::Model;
@@ -164,6 +164,16 @@ impl<M: Medium> Namespace<M> {
     {
         let shelf = &mut self.shelves[(b / self.shelf) as usize];
         shelf.clear();
+    }
+
+    /// The entry of the piece that was done last on the shelf that has block `b`, where one was done.
+    pub fn last_entry_at(&self, b: u32) -> ShelfEntry
+        requires there { b < block_count self.now }
+        requires some { entries_at self.now b ≢ [] }
+        ensures { result ≡ slice_index_or (entries_at self.now b) (length (entries_at self.now b) - 1) result }
+    {
+        let entries = self.shelves[(b / self.shelf) as usize].entries();
+        entries[entries.len() - 1]
     }
 
     /// The media in order, without the shelves.

@@ -126,3 +126,10 @@ all_parts shelf span h =
 pub parts_cover : (shelf : ℕ) (span : Span) → 1 ≤ shelf → HasBlocksOf span (piece_count shelf span) (piece_at shelf span)
 parts_cover shelf span h =
     first_parts shelf span (piece_count shelf span) h (omega arith) ∙ ap (range_with_len span.first) (all_parts shelf span h)
+
+-- the i-th part lies in the i-th shelf from the first one
+pub part_shelf : (shelf : ℕ) (span : Span) (i : ℕ) → 1 ≤ shelf → i < piece_count shelf span → (piece_at shelf span i).first / shelf ≡ span.first / shelf + i
+part_shelf shelf span i h there =
+    let k = span.first / shelf + i in
+    let start = starts shelf span i h there in
+    div-eq_of_lt-le {k = k} shelf (omega arith) (omega (arith, start.high))

@@ -13,7 +13,7 @@ use Rattle.nvm_model.specs.Run.CopyEnd.{Copied, NotRead, NotWritten}
 use Rattle.session.specs.Copies.{AreEnded, Both, CopiesTo, both}
 use Rattle.session.specs.Place.{PlaceState}
 use Rattle.session.specs.Port.{SamePlace}
-use Rattle.session.proofs.ShelvesLemmas.{called_same, same_more, same_stay}
+use Rattle.nvm_blocks.proofs.NamespaceLaws.{called_same, same_more, same_stay}
 
 -- Copies, block after block.
 

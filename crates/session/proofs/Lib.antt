@@ -1,5 +1,6 @@
 pub mod AllLanesLemmas
 pub mod CopyLemmas
+pub mod EntryLemmas
 pub mod LanePartLemmas
 pub mod MemoryLemmas
 pub mod OpenLemmas

@@ -20,7 +20,7 @@ use Rattle.manager.specs.Port.PortCall.{Copy as Copying}
 use Rattle.session.specs.Place.{PlaceState}
 use Rattle.session.specs.Port.{CallsPlace, DestCall, DestState, Ends, IsDestCall, dest_of_place, moves_ends, moves_place, moves_port, port_of, side_of_place}
 use Rattle.session.specs.Port.DestCall.{Put, Mark}
-use Rattle.session.proofs.ShelvesLemmas.{called_same}
+use Rattle.nvm_blocks.proofs.NamespaceLaws.{called_same}
 
 -- What is told, and counts.
 

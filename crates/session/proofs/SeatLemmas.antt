@@ -1,25 +1,23 @@
-use Rattle.std.proofs.Common.{◌≡◌, ℕ, ◌-◌, ◌/◌, ◌%◌, ◌<◌, Bool, List, get_or, length, set, sym, ap, subst, ◌∙◌, length-set, get_or-set_same, arith, ◌≤◌, refl}
+use Rattle.std.proofs.Common.{◌≡◌, ℕ, ◌-◌, ◌<◌, Bool, List, get_or, length, set, sym, ap, subst, ◌∙◌, length-set, get_or-set_same, arith, ◌≤◌, refl}
 use Rattle.std.proofs.lemmas.List.{get_or-set_other, get_or_read}
 use Rattle.nvm_model.specs.declared.piece.Piece.{Piece}
 use Rattle.nvm_model.specs.declared.piece.PieceResult.{PieceResult}
 use Rattle.nvm_model.specs.declared.trace.Step.{Step}
-use Rattle.nvm_model.specs.Chain.{Chain}
-use Rattle.nvm_model.specs.Medium.{IsAt, MediumState, all_at}
-use Rattle.nvm_model.specs.Trace.{piece_calls}
-use Rattle.nvm_blocks.specs.Namespace.{HasAppliedIn, IsClearedAt, NamespaceState, media_of}
+use Rattle.nvm_model.specs.Medium.{MediumState}
+use Rattle.nvm_blocks.specs.Namespace.{HasAppliedIn, NamespaceState}
 use Rattle.nvm_blocks.specs.Work.{IsSameButData}
 use Rattle.guest_ram.specs.Window.{WindowState, data_pages, no_window}
 use Rattle.controller.specs.Changes.{Notes}
 use Rattle.controller.specs.Pair.{ControllerState, PairState, IsSameButPair}
 use Rattle.session.specs.Lanes.{window_of, Stands, HaveWindows, IsWindowOf}
 use Rattle.session.specs.Seats.{DoesPieceAt, IsSameButWindow, HasSeat, IsSameButSeat}
-use Rattle.session.proofs.ShelvesLemmas.{called_same, cleared_shelves, same_more}
 use Rattle.nvm_model.specs.declared.script.Script.{Script}
 use Rattle.nvm_model.specs.declared.line.Line.{Line}
 use Rattle.nvm_model.specs.World.{Lane}
 use Rattle.session.specs.declared.lane_run.LaneRun.{LaneRun}
 use Rattle.session.specs.LaneParts.{Leads, IsSeat, seat_of}
 use Rattle.session.specs.Place.{PlaceState}
+use Rattle.nvm_blocks.proofs.NamespaceLaws.{called_same}
 
 -- A place's parts while they are lent.
 
@@ -61,20 +59,18 @@ pub seat_leads : {s : Script} {k : ℕ} {run new_run : LaneRun} {p q : PairState
 seat_leads {s} {k} {run} {new_run} {p} {q} {Part} {a} {b} ram w v is there leads l stands =
     subst (λ (u : WindowState). Leads Part (Stands s k new_run q u) l a b) (sym (window_back ram k v there)) (leads l (subst (λ (u : WindowState). Stands s k run p u l) (lent_window ram k w is there) stands))
 
--- a piece was done on a shelf that was cleared, with the window that was lent
-pub piece_done : {M I : Type 0} {state : M → MediumState I} {moves : I → Step → Bool → I → Type 0} {piece : Piece} {result : PieceResult} {old clear new : NamespaceState M} {ram : List WindowState} {controller new_controller : ControllerState} (w v : WindowState) →
-    IsClearedAt piece.span.first old clear → w ≡ get_or ram (piece.lane - 1) w → piece.lane - 1 < length ram → HasAppliedIn state moves piece result clear (data_pages w) new (data_pages v) → IsSameButData w v → Notes piece result controller new_controller →
+-- a piece was done, with the window that was lent
+pub piece_done : {M I : Type 0} {state : M → MediumState I} {moves : I → Step → Bool → I → Type 0} {piece : Piece} {result : PieceResult} {old new : NamespaceState M} {ram : List WindowState} {controller new_controller : ControllerState} (w v : WindowState) →
+    w ≡ get_or ram (piece.lane - 1) w → piece.lane - 1 < length ram → HasAppliedIn state moves piece result old (data_pages w) new (data_pages v) → IsSameButData w v → Notes piece result controller new_controller →
     DoesPieceAt state moves piece result (record { namespace = old; windows = ram; controller = controller }) (record { namespace = new; windows = set ram (piece.lane - 1) v; controller = new_controller })
-piece_done {M} {I} {state} {moves} {piece} {result} {old} {clear} {new} {ram} w v clear_is is there applied kept noted =
+piece_done {M} {I} {state} {moves} {piece} {result} {old} {new} {ram} w v is there applied kept noted =
     let back = window_back ram piece.lane v there in
     let lent = lent_window ram piece.lane w is there in
-    let calls = λ (shelf : ℕ) (u : WindowState). all_at (piece.span.first / shelf) (piece_calls piece (piece.span.first % shelf) (data_pages u) applied.moved result.outcome) in
     record {
       moved = applied.moved;
       done = rw (back, lent) applied.done;
-      called = subst (λ (u : WindowState). Chain (IsAt state moves) (media_of old) (calls old.shelf u) (media_of new)) (sym lent) (subst (λ (k : ℕ). Chain (IsAt state moves) (media_of old) (calls k w) (media_of new)) clear_is.shelf
-          (subst (λ (ms : List M). Chain (IsAt state moves) ms (calls clear.shelf w) (media_of new)) clear_is.media applied.called.made));
-      shelves = same_more (cleared_shelves clear_is) (called_same applied.called);
+      called = rw lent applied.called.made;
+      shelves = called_same applied.called;
       kept = rw (back, lent) kept;
       windows = ap (λ (u : WindowState). set ram (piece.lane - 1) u) (sym back);
       noted = noted;

@@ -30,7 +30,7 @@ pub record Phases {M I : Type 0} (state : M → MediumState I) (moves : I → St
   pub planned_events : List Line
   pub plan : (lanes : List Lane) → StandsFor s old.runs old.place.controller old.place.windows lanes
       → Leads (InLanes (Plans s) 1) (StandsFor s planned_runs planned_place.controller planned_place.windows) lanes [] planned_events
-  pub plan_kept : planned_place.namespace ≡ old.place.namespace
+  pub plan_kept : media_of planned_place.namespace ≡ media_of old.place.namespace
   pub worked_runs : List LaneRun
   pub worked_place : PlaceState M
   pub worked_events : List Line
@@ -50,7 +50,7 @@ phases_from : {M I : Type 0} {state : M → MediumState I} {moves : I → Step �
 phases_from {M} {state = state} {moves} {s} {old} {new} {events} p h stands =
     let plan = p.plan h.lanes stands.lanes in
     let planned : Here M = record h { lanes = plan.new } in
-    let media : h.media ≡ media_of p.planned_place.namespace = stands.media ∙ ap (λ (n : NamespaceState M). media_of n) (sym p.plan_kept) in
+    let media : h.media ≡ media_of p.planned_place.namespace = stands.media ∙ sym p.plan_kept in
     let works = p.works planned (record { lanes = plan.stands; media = media; words = stands.words }) in
     let posts = p.posts works.new.lanes works.stands.lanes in
     let is = p.ready.script in

@@ -43,17 +43,12 @@ use Rattle.session.proofs.SeatLemmas.{other_windows}
 
 -- A piece that is done: what it does to its lane, and to all lanes over their media.
 
--- the piece that follows a lane's results is its next one
-planned_next : {s : Script} {k : ℕ} {plan : PlanState} {pair : PairState} → IsPlanned s k plan pair → (results : List PieceResult) (d : Piece) → length results < length (pieces_of plan k) →
-    IsNext k s.head.shelf s.head.blocks (set_of s.head k).pages pair.commands (outcomes_of results) (slice_index_or (pieces_of plan k) (length results) d)
-planned_next {s} {k} {plan} {pair} is results d few =
-    let os = outcomes_of results in
-    let count : length os ≡ length results = length-map results (λ (r : PieceResult). r.outcome) in
-    let all : length (pieces_of plan k) ≡ length (lane_pieces k s.head.shelf pair.commands) = ap length is.pieces in
-    let next = is_next k s.head.shelf s.head.blocks (set_of s.head k).pages pair.commands os d is.checked (omega (arith, count, few, all)) in
-    let is_so = λ (p : Piece). IsNext k s.head.shelf s.head.blocks (set_of s.head k).pages pair.commands os p in
-    subst (λ (n : ℕ). is_so (slice_index_or (pieces_of plan k) n d)) count
-    (subst (λ (ps : List Piece). is_so (slice_index_or ps (length os) d)) (sym is.pieces) next)
+-- the piece that follows so many that were done is the next one
+pub planned_next : {s : Script} {k : ℕ} {plan : PlanState} {pair : PairState} → IsPlanned s k plan pair → (os : List Outcome) (d : Piece) → length os < length (pieces_of plan k) →
+    IsNext k s.head.shelf s.head.blocks (set_of s.head k).pages pair.commands os (slice_index_or (pieces_of plan k) (length os) d)
+planned_next {s} {k} {plan} {pair} is os d few =
+    subst (λ (ps : List Piece). IsNext k s.head.shelf s.head.blocks (set_of s.head k).pages pair.commands os (slice_index_or ps (length os) d)) (sym is.pieces)
+    (is_next k s.head.shelf s.head.blocks (set_of s.head k).pages pair.commands os d is.checked (omega (arith, few, ap length is.pieces)))
 
 -- the lane that a run stands for after its next piece
 abbrev pub lane_after : Script → PairState → LaneRun → PieceResult → WindowState → Lane → Lane
@@ -142,8 +137,10 @@ pub next_at : {M : Type 0} {s : Script} {runs : List LaneRun} {plan : PlanState}
     ((d : LaneRun) (none : Piece) → piece ≡ slice_index_or (pieces_of plan (at + 1)) (length (slice_index_or runs at d).results.items) none) →
     IsNext (at + 1) s.head.shelf s.head.blocks (set_of s.head (at + 1)).pages (pair_of place.controller (at + 1)).commands (outcomes_of (slice_index_or runs at d).results.items) piece
 next_at {s = s} {runs} {plan} {place} {piece} at d has is piece_is =
-    subst (λ (p : Piece). IsNext (at + 1) s.head.shelf s.head.blocks (set_of s.head (at + 1)).pages (pair_of place.controller (at + 1)).commands (outcomes_of (slice_index_or runs at d).results.items) p) (sym (piece_is d piece))
-    (planned_next (has.planned (at + 1) (omega arith) (omega (arith, is.there))) (slice_index_or runs at d).results.items piece (is.left d))
+    let os = outcomes_of (slice_index_or runs at d).results.items in
+    let count : length os ≡ length (slice_index_or runs at d).results.items = length-map (slice_index_or runs at d).results.items (λ (r : PieceResult). r.outcome) in
+    subst (λ (p : Piece). IsNext (at + 1) s.head.shelf s.head.blocks (set_of s.head (at + 1)).pages (pair_of place.controller (at + 1)).commands os p)
+    (ap (λ (n : ℕ). slice_index_or (pieces_of plan (at + 1)) n piece) count ∙ sym (piece_is d piece)) (planned_next (has.planned (at + 1) (omega arith) (omega (arith, is.there))) os piece (omega (arith, count, is.left d)))
 
 -- a lane has at most 64 pieces for each command that may be fetched
 pub pieces_fit : {s : Script} {k : ℕ} {plan : PlanState} {pair : PairState} → 1 ≤ s.head.shelf → IsPlanned s k plan pair → length (pieces_of plan k) ≤ 64 * s.head.burst

@@ -3,7 +3,7 @@ use Rattle.std.specs.List.{flat_map}
 use Rattle.nvm_model.specs.declared.trace.Step.{Step}
 use Rattle.nvm_model.specs.Chain.{Chain}
 use Rattle.nvm_model.specs.Medium.{IsAt, MediumState}
-use Rattle.nvm_blocks.specs.Namespace.{block_count, media_of}
+use Rattle.nvm_blocks.specs.Namespace.{SameShelves, block_count, media_of}
 use Rattle.nvm_model.specs.Run.{CopiesAll, CopiesUpTo, Copy, gets_of, puts_of}
 use Rattle.guest_ram.specs.Ram.{shape}
 use Rattle.session.specs.Place.{PlaceState, pages_of}

@@ -5,7 +5,7 @@ use Rattle.nvm_model.specs.Chain.{Chain}
 use Rattle.nvm_model.specs.Medium.{At, IsAt, MediumState, StayTold, marks_at}
 use Rattle.nvm_model.specs.Run.{at_block, get_of, put_of}
 use Rattle.guest_ram.specs.Ram.{all_pages, shape}
-use Rattle.nvm_blocks.specs.Namespace.{block_count, faults_of, media_of, told_of}
+use Rattle.nvm_blocks.specs.Namespace.{SameShelves, block_count, faults_of, media_of, told_of}
 use Rattle.adm_values.specs.declared.command.AdminCmd.{AdminCmd}
 use Rattle.adm_values.specs.declared.command.AdminCpl.{AdminCpl}
 use Rattle.adm_values.specs.Command.{command_bytes}
@@ -16,7 +16,6 @@ use Rattle.manager.specs.declared.side.Side.TheVariants.{From, To}
 use Rattle.manager.specs.Port.{PortCall, PortState, SideState, with_controller, with_media_of}
 use Rattle.manager.specs.Port.PortCall.{Copy as Copying, Admin as Commanding, CopyPage as CopyingPage, Mark as Marking}
 use Rattle.session.specs.Place.{PlaceState}
-use Rattle.session.specs.Shelves.{SameShelves}
 
 -- The other side of a move, to which a place or the far end of a link may stand.
 

@@ -1,4 +1,4 @@
-use Rattle.std.specs.Prelude.{◌≡◌, ℕ, ◌-◌, ◌/◌, ◌%◌, ◌≤◌, All, Bool, List, [], length, slice_index_or, slice_set}
+use Rattle.std.specs.Prelude.{◌≡◌, ℕ, ◌-◌, ◌/◌, ◌%◌, ◌≤◌, Bool, List, [], length, slice_index_or, slice_set}
 use Rattle.nvm_model.specs.declared.piece.Piece.{Piece}
 use Rattle.nvm_model.specs.declared.piece.PieceResult.{PieceResult}
 use Rattle.nvm_model.specs.declared.script.Script.{Script}
@@ -8,7 +8,7 @@ use Rattle.nvm_model.specs.Medium.{IsAt, MediumState, all_at}
 use Rattle.nvm_model.specs.ScriptText.{IsHead}
 use Rattle.nvm_model.specs.Trace.{IsPieceDone, piece_calls}
 use Rattle.nvm_model.specs.World.{Lane}
-use Rattle.nvm_blocks.specs.Namespace.{IsForNamespace, NamespaceState, block_count, media_of, rooms_of}
+use Rattle.nvm_blocks.specs.Namespace.{HasRoom, IsForNamespace, IsSameButEntries, SameShelves, block_count, media_of}
 use Rattle.nvm_blocks.specs.Work.{IsSameButData}
 use Rattle.guest_ram.specs.Window.{WindowState, data_pages, no_window}
 use Rattle.controller.specs.declared.controller.Phase.TheVariants.{Running}
@@ -17,7 +17,6 @@ use Rattle.controller.specs.Pair.{IsSameButPair, pair_of}
 use Rattle.session.specs.declared.lane_run.LaneRun.{LaneRun}
 use Rattle.session.specs.Lanes.{IsRunOf, Stands, window_of}
 use Rattle.session.specs.Place.{IsPlaceOf, PlaceState}
-use Rattle.session.specs.Shelves.{SameShelves}
 
 -- A lane's seat at a place: its pair of the controller's queues, and its window.
 
@@ -39,16 +38,17 @@ pub record MayPlan {M : Type 0} (s : Script) (run : LaneRun) (place : PlaceState
   pub commands : (pair_of place.controller run.script.lane).commands ≡ []
   pub results : run.results.items ≡ []
 
--- each shelf has room for the entries of a command's pieces
-abbrev pub HasRooms : {M : Type 0} → NamespaceState M → Type 0
-HasRooms n = (1 ≤ n.shelf) × All (λ (room : ℕ). 64 ≤ room) (rooms_of n)
-
--- a piece for the place's namespace, and for the window of its lane, which is there
+-- a piece for the place's namespace, where its shelf has room for its entry, and for the window of its lane, which is there
 pub record IsForPlace {M : Type 0} (piece : Piece) (place : PlaceState M) : Type 0 where
   pub lane : (1 ≤ piece.lane) × (piece.lane ≤ length place.windows)
   pub fits : IsForNamespace place.namespace (length (data_pages (window_of place.windows piece.lane))) piece
-  pub rooms : HasRooms place.namespace
+  pub room : HasRoom place.namespace (piece.span.first / place.namespace.shelf)
   pub few : block_count place.namespace ≤ 131072
+
+-- entries of its shelves were dropped, and beside these nothing of a place changed
+pub record DropsEntries {M : Type 0} (old new : PlaceState M) : Type 0 where
+  pub entries : IsSameButEntries old.namespace new.namespace
+  pub rest : new ≡ record old { namespace = new.namespace }
 
 -- the windows but that of lane k stayed, and it kept its number and its size
 pub record IsSameButWindow (k : ℕ) (old new : List WindowState) : Type 0 where

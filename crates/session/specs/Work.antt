@@ -1,7 +1,9 @@
 use Rattle.std.specs.Prelude.{◌≡◌, ℕ, ◌+◌, ◌-◌, ◌≤◌, List, [], ◌∷◌, ◌++◌, All, length, map, slice_index_or, vec_capacity}
+use Rattle.nvm_model.specs.declared.piece.Piece.{Piece}
 use Rattle.nvm_model.specs.declared.piece.PieceResult.{PieceResult}
 use Rattle.nvm_model.specs.declared.script.Script.{Script}
 use Rattle.nvm_model.specs.World.{set_of}
+use Rattle.nvm_blocks.specs.Namespace.{Enters, NamespaceState}
 use Rattle.hall.specs.Plan.{PlanState, pieces_of}
 use Rattle.controller.specs.Pair.{IsFetched, PairState, lane_pieces, told_fetch}
 use Rattle.session.specs.declared.lane_run.LaneRun.{LaneRun}
@@ -31,6 +33,17 @@ pub record IsSameButRun (at : ℕ) (runs new : List LaneRun) : Type 0 where
 pub record HasResultAt (at : ℕ) (result : PieceResult) (runs new : List LaneRun) : Type 0 where
   pub here : (d : LaneRun) → HasResult (slice_index_or runs at d) result (slice_index_or new at d)
   pub same : IsSameButRun at runs new
+
+-- the piece that is due of the lane at a place
+abbrev pub due_piece : List LaneRun → PlanState → ℕ → LaneRun → Piece → Piece
+due_piece runs plan at d none = slice_index_or (pieces_of plan (at + 1)) (length (slice_index_or runs at d).results.items) none
+
+-- it was done: its result stands behind its lane's, and its entry, with the ticket that it drew, behind its shelf's
+pub record HasDone {M : Type 0} (at ticket : ℕ) (plan : PlanState) (runs new_runs : List LaneRun) (n new : NamespaceState M) : Type 0 where
+  pub result : PieceResult
+  pub has : HasResultAt at result runs new_runs
+  pub entered : (d : LaneRun) (none : Piece)
+      → Enters (due_piece runs plan at d none).span.first (record { lane = (due_piece runs plan at d none).lane; index = length (slice_index_or runs at d).results.items; ticket = ticket; result = result }) n new
 
 -- the commands of a lane were fetched, and all their pieces were done
 pub record MayPost (s : Script) (k : ℕ) (run : LaneRun) (pair : PairState) : Type 0 where

@@ -1,13 +1,13 @@
-ghost use Rattle.std.specs.Prelude.{◌≡◌, ◌+◌, ◌/◌, ◌≤◌, [], ◌∷◌, length, slice_index_or, vec_capacity, vec_len};
+ghost use Rattle.std.specs.Prelude.{◌≡◌, ◌+◌, ◌<◌, ◌≤◌, [], All, length, vec_capacity, vec_len};
 ghost use Rattle.nvm_model.specs.Turn.{Plans, PostsAll};
 ghost use Rattle.nvm_model.specs.World.{Lane};
-ghost use Rattle.nvm_blocks.specs.Namespace.{entries_of};
+ghost use Rattle.nvm_blocks.specs.Namespace.{Enters, IsSameButEntries, block_count, entries_at};
 ghost use Rattle.hall.specs.Plan.{pieces_of};
 ghost use Rattle.controller.specs.Pair.{pair_of};
 ghost use Rattle.session.specs.LaneParts.{HasMore, Leads};
 ghost use Rattle.session.specs.Lanes.{IsRunOf};
 ghost use Rattle.session.specs.Phases.{FitPlan, PlansLane};
-ghost use Rattle.session.specs.Seats.{DoesPieceAt, HasSeat, IsForPlace, IsSameButSeat, MayPlan, Sits};
+ghost use Rattle.session.specs.Seats.{DoesPieceAt, DropsEntries, HasSeat, IsForPlace, IsSameButSeat, MayPlan, Sits};
 ghost use Rattle.session.specs.Work.{MayPost};
 
 mod moving;
@@ -83,18 +83,28 @@ impl<M: Medium> Place<M> {
         plan_lane(script, run, &mut self.controller, window, plan, events);
     }
 
-    /// Does a piece, the one of this number of its lane's. Its entry is the only one of its shelf then.
-    pub(crate) fn piece(&mut self, piece: &Piece, index: u32) -> PieceResult
+    /// Drops the entries of the shelves on which pieces lie.
+    pub(crate) fn clear_shelves(&mut self, pieces: &[Piece])
+        requires { All (λ p. p.span.first < block_count self.old.namespace) pieces.now }
+        ensures kept { DropsEntries self.old self.new }
+        ensures cleared { All (λ p. entries_at self.new.namespace p.span.first ≡ []) pieces.now }
+    {
+        clear_under(&mut self.namespace, pieces);
+    }
+
+    /// Does a piece, the one of this number of its lane's, which drew this ticket. What it comes to is read from the entry
+    /// that its shelf has last.
+    pub(crate) fn piece(&mut self, piece: &Piece, index: u32, ticket: u64) -> PieceResult
         requires { IsForPlace piece.now self.old }
         ensures done { DoesPieceAt M.state M.moves piece.now result self.old self.new }
-        ensures entry { slice_index_or (entries_of self.new.namespace)
-            (piece.now.span.first / self.old.namespace.shelf) []
-            ≡ record { lane = piece.now.lane; index = index; ticket = 0; result = result } ∷ [] }
+        ensures entered { Enters piece.now.span.first
+            (record { lane = piece.now.lane; index = index; ticket = ticket; result = result })
+            self.old.namespace self.new.namespace }
     {
-        self.namespace.clear_at(piece.span.first);
         let window = self.ram.window_mut(piece.lane);
         self.controller
-            .serve_serial(piece, index, 0, &mut self.namespace, window)
+            .serve_serial(piece, index, ticket, &mut self.namespace, window);
+        self.namespace.last_entry_at(piece.span.first).result
     }
 
     /// Posts the completions of a lane's fetched commands, whose pieces are all done.
@@ -114,5 +124,16 @@ impl<M: Medium> Place<M> {
     {
         let window = self.ram.window_mut(run.script.lane);
         post_lane(script, run, &mut self.controller, window, events);
+    }
+}
+
+/// Drops the entries of the shelves of a namespace on which pieces lie.
+fn clear_under<M: Medium>(namespace: &mut Namespace<M>, pieces: &[Piece])
+    requires { All (λ p. p.span.first < block_count namespace.old) pieces.now }
+    ensures kept { IsSameButEntries namespace.old namespace.new }
+    ensures cleared { All (λ p. entries_at namespace.new p.span.first ≡ []) pieces.now }
+{
+    for piece in pieces {
+        namespace.clear_at(piece.span.first);
     }
 }

@@ -4,7 +4,7 @@ ghost use Rattle.nvm_model.specs.Run.{Here};
 ghost use Rattle.session.specs.Phases.{HasRoom};
 ghost use Rattle.session.specs.Place.{AreAllDone, AreRunsOf, DoesTurn, IsReady, StandsOn, machine, total_work};
 
-use crate::pieces::do_pieces;
+use crate::pieces::{clear_shelves, do_pieces};
 use crate::plan::plan_all;
 use crate::posts::post_all;
 use crate::{LaneRun, Order, Place};
@@ -53,6 +53,7 @@ pub(crate) fn do_turn<M: Medium>(
     events.clear();
     plan.clear();
     plan_all(script, runs, plan, events, place);
+    clear_shelves(script, plan, place);
     do_pieces(script, runs, order, plan, events, place);
     post_all(script, runs, plan, events, place);
 }

@@ -5,12 +5,16 @@ use Rattle.session.proofs.OrderLemmas.{all_done, has_words, left_at, left_few, l
 use Rattle.session.proofs.WorkLemmas.{lefts_are}
 use Rattle.session.proofs.pieces.do_pieces.Goals as goal
 use Rattle.mig_base.proofs.ListLemmas.{element_at, sum_less, sum_none}
+use Rattle.session.proofs.EntryLemmas.{room_due, rooms_first, rooms_next}
+use Rattle.hall.specs.Plan.{pieces_of}
 
 pub pieces-init : goal.pieces-init
 pieces-init g c = record {
   works = λ h stands. works_none _ h c.args.events.now.items stands;
   has = c.requires.has.0;
   left = c.count_left.ensures;
+  rooms = rooms_first c.count_left.new.left c.requires.has.0 c.requires.clear;
+  tickets = omega arith;
   mix = c.requires.mix;
   count = refl;
   capacity = refl;
@@ -22,6 +26,12 @@ do_piece-requires-clause-left g c =
     let there = c.in-Some.ensures.there in
     let low : c.in-Some.at < c.args.script.now.head.lanes = omega (arith, there.0, is.count) in
     record { there = low; left = λ d. omega (arith, there.1, left_at is c.in-Some.at d low) }
+
+pub do_piece-requires-clause-entry : goal.do_piece-requires-clause-entry
+do_piece-requires-clause-entry g c =
+    let now = c.pieces.invariant in
+    let there = c.in-Some.ensures.there in
+    λ d none. room_due c.in-Some.at d none now.has now.left now.rooms (omega (arith, there.0, now.left.count)) there.1
 
 pub do_piece-requires-clause-room : goal.do_piece-requires-clause-room
 do_piece-requires-clause-room g c =
@@ -38,20 +48,23 @@ pieces-preserved g c =
     let at = c.in-Some.at in
     let there = c.in-Some.ensures.there in
     let low : at < s.head.lanes = omega (arith, there.0, now.left.count) in
-    let one = c.do_piece.ensures.one in
+    let done = c.do_piece.ensures.done in
+    let d = element_at c.pieces.runs.items at (omega (arith, low, now.has.fit.own.count)) in
+    let none = element_at (pieces_of c.args.plan.now (at + 1)) 0 (omega (arith, left_at now.left at d low, there.1)) in
     record {
       works = λ h stands.
           let x = now.works h stands in
           let m = x.new.drawn in
           let had = words_of s m order now.mix x.stands.words in
-          let d = element_at c.pieces.runs.items at (omega (arith, low, now.has.fit.own.count)) in
           let lefts : map (left_in s.head.shelf) x.new.lanes ≡ left = lefts_are d now.has.planned now.left x.stands.lanes in
           let next : at + 1 ≡ next_lane s.head.mix m (map (left_in s.head.shelf) x.new.lanes) =
           (c.in-Some.ensures.next m had).0 ∙ ap (λ (k : ℕ). next_lane k m left) now.mix ∙ ap (λ (l : List ℕ). next_lane s.head.mix m l) (sym lefts) in
           let drawn : HasWords s (m + 1) c.pick.new.self = has_words s (m + 1) c.pick.new.self (c.in-Some.ensures.mix ∙ now.mix) (c.in-Some.ensures.next m had).1 in
           works_more (at + 1) x next drawn c.do_piece.ensures.works;
       has = c.do_piece.ensures.has;
-      left = left_less at one.0 low there.1 one.1 now.left;
+      left = left_less at done.result low there.1 done.has now.left;
+      rooms = rooms_next at d none now.has now.left now.rooms low there.1 (done.entered d none);
+      tickets = omega (arith, now.tickets, c.do_piece.ensures.more.0);
       mix = c.in-Some.ensures.mix ∙ now.mix;
       count = omega (arith, c.do_piece.ensures.more.0, sum_less left at there.0 there.1, now.count);
       capacity = c.do_piece.ensures.more.1 ∙ now.capacity;

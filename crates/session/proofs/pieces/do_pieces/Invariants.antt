@@ -5,6 +5,7 @@ use Rattle.session.specs.Phases.{DoesPieces, HasPlan}
 use Rattle.session.specs.Place.{StandsOn, machine}
 use Rattle.session.specs.Work.{AreLeft}
 use Rattle.session.proofs.pieces.do_pieces.Given as goal
+use Rattle.session.proofs.EntryLemmas.{HaveRooms}
 
 abbrev pub invariant-pieces : goal.invariant-pieces
 invariant-pieces g l =
@@ -14,6 +15,8 @@ invariant-pieces g l =
           → Leads (DoesPieces medium.state medium.moves l.script) (StandsOn l.script (machine l.runs.items l.order l.place)) h l.fn.events.items l.events.items;
       has : HasPlan l.script l.runs.items l.plan l.place;
       left : AreLeft l.script l.runs.items l.plan l.left;
+      rooms : HaveRooms l.script l.plan l.place.namespace l.left;
+      tickets : vec_len l.events ≡ vec_len l.fn.events + l.ticket;
       mix : l.order.mix ≡ l.script.head.mix;
       count : vec_len l.events + sum l.left ≡ vec_len l.fn.events + sum l.initial.left;
       capacity : vec_capacity l.events ≡ vec_capacity l.fn.events;
