@@ -11,7 +11,7 @@ use Rattle.nvm_model.specs.Run.{at_block, get_of}
 use Rattle.nvm_blocks.specs.Namespace.{HasCalled, NamespaceState, block_call, block_count, faults_of}
 use Rattle.nvm_model.specs.Chain.{Chain}
 use Rattle.nvm_model.proofs.ChainLemmas.{chain_keeps}
-use Rattle.nvm_blocks.proofs.NamespaceLaws.{was_marked, was_put, was_read}
+use Rattle.nvm_blocks.proofs.NamespaceLaws.{called_same, was_marked, was_put, was_read}
 use Rattle.manager.specs.declared.side.CopyAnswer.{CopyAnswer}
 use Rattle.manager.specs.declared.side.CopyAnswer.TheVariants.{Copied, Fault}
 use Rattle.manager.specs.declared.side.Side.TheVariants.{From, To}
@@ -20,7 +20,6 @@ use Rattle.manager.specs.Port.PortCall.{Copy as Copying}
 use Rattle.session.specs.Place.{PlaceState}
 use Rattle.session.specs.Port.{CallsPlace, DestCall, DestState, Ends, IsDestCall, dest_of_place, moves_ends, moves_place, moves_port, port_of, side_of_place}
 use Rattle.session.specs.Port.DestCall.{Put, Mark}
-use Rattle.nvm_blocks.proofs.NamespaceLaws.{called_same}
 
 -- What is told, and counts.
 
