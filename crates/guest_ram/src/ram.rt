@@ -94,8 +94,8 @@ impl Ram {
         count
     }
 
-    /// The bytes of a window page, which is there. Numbers count over all lanes: the window pages of lane 1, then those of
-    /// lane 2, and so on, from 0.
+    /// The bytes of a window page, which is there. Numbers count over all lanes: the window pages of lane 1, then those
+    /// of lane 2, and so on, from 0.
     pub fn page(&self, page: u32) -> &[u8; 4096]
         requires { page < length (all_pages self.now) }
         ensures { result.now ≡ page_at (all_pages self.now) page }

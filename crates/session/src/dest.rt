@@ -12,7 +12,8 @@ pub trait Dest {
     /// A meaning of its own, as plain data: what its calls did to the media, say.
     ghost Inside: { Type 0 };
 
-    /// What contracts see of it: what a manager sees, the number of blocks, how many calls are left, and its own meaning.
+    /// What contracts see of it: what a manager sees, the number of blocks, how many calls are left, and a meaning of its
+    /// own.
     ghost state: { Self → DestState Inside };
 
     /// How a call, with its answer and the bytes that went through it, takes that meaning on.
@@ -28,8 +29,8 @@ pub trait Dest {
         requires there { b < (state self.old).count }
         ensures { IsDestCall moves (state self.old) (Put b bytes.now (is_err result)) (state self.new) };
 
-    /// Writes a window page, which is there, and no other. Numbers count over all lanes: the window pages of lane 1, then
-    /// those of lane 2, and so on, from 0.
+    /// Writes a window page, which is there, and no other. Numbers count over all lanes: the window pages of lane 1,
+    /// then those of lane 2, and so on, from 0.
     fn page(&mut self, page: u32, bytes: &[u8; 4096])
         requires left { 1 ≤ (state self.old).left }
         requires there { page < length (state self.old).side.pages }
