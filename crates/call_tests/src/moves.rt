@@ -131,9 +131,10 @@ fn transcript(alloc: Global, parts: [&str; 3]) -> Result<Vec<u8>, AllocError> {
     joined(alloc, &[first, before, lines, after, "end\n"])
 }
 
-/// The source's calls: the write before the move, and each block read once.
-const SOURCE_CALLS: [Step; 17] = [
+/// The source's calls: the write before the move, and each block read once, between two marks.
+const SOURCE_CALLS: [Step; 19] = [
     Step::Put(3),
+    Step::Mark(1),
     Step::Get(0),
     Step::Get(1),
     Step::Get(2),
@@ -150,10 +151,12 @@ const SOURCE_CALLS: [Step; 17] = [
     Step::Get(13),
     Step::Get(14),
     Step::Get(15),
+    Step::Mark(2),
 ];
 
-/// The destination's: each block written once, and then what the guest does there.
-const DESTINATION_CALLS: [Step; 20] = [
+/// The destination's: each block written once, between the marks, and then what the guest does there.
+const DESTINATION_CALLS: [Step; 22] = [
+    Step::Mark(1),
     Step::Put(0),
     Step::Put(1),
     Step::Put(2),
@@ -170,6 +173,7 @@ const DESTINATION_CALLS: [Step; 20] = [
     Step::Put(13),
     Step::Put(14),
     Step::Put(15),
+    Step::Mark(2),
     Step::Get(3),
     Step::Put(4),
     Step::Get(3),

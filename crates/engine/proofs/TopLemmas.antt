@@ -27,7 +27,7 @@ use Rattle.engine.specs.declared.status.Status.TheVariants.{Done, Usage, BadScri
 use Rattle.engine.specs.Built.{IsTaken, Spells}
 use Rattle.engine.specs.Claims.{OnEnded, OnWriteFault, is_gave_up, is_write_fault}
 use Rattle.engine.specs.Headline.{AreLeft, HasGone, Hosts, IsRun, start}
-use Rattle.engine.specs.Opened.{IsOpened}
+use Rattle.engine.specs.Opened.{IsOpened, phase_at}
 
 -- What a session over two places leaves to the hosts that these were opened of.
 
@@ -160,13 +160,13 @@ not_tried false asked begun none = refl
 not_tried true asked begun none = let b = begun refl in absurd cc
 
 -- a host's media are as many as the script's shelves
-pub count_is : {M I : Type 0} {state : M → MediumState I} {head : Head} {media : List M} {place : PlaceState M} → IsOpened state head media place → length media * head.shelf ≡ head.blocks
+pub count_is : {M I : Type 0} {state : M → MediumState I} {side : Side} {head : Head} {media : List M} {place : PlaceState M} → IsOpened state side head media place → length media * head.shelf ≡ head.blocks
 count_is {M} {head = head} {media} {place} o =
     let n = place.namespace in
     let many : length media ≡ length n.shelves = ap (λ (l : List M). length l) (sym o.opened.media_are) ∙ length-map n.shelves (λ (s : ShelfState M). s.medium) in
     ap (λ (k : ℕ). k * head.shelf) many ∙ ap (λ (k : ℕ). length n.shelves * k) (sym o.opened.namespace.shelf) ∙ o.opened.namespace.blocks
 
-tells : {M I : Type 0} {state : M → MediumState I} {s : Script} (old : Hosts M) {source destination : PlaceState M} → IsTaken s → IsOpened state s.head old.from source → IsOpened state s.head old.to destination →
+tells : {M I : Type 0} {state : M → MediumState I} {s : Script} (old : Hosts M) {source destination : PlaceState M} → IsTaken s → IsOpened state Source s.head old.from source → IsOpened state Destination s.head old.to destination →
     (blocks others : List (List ℕ)) → joined (told_in state old.from) ≡ Some blocks → joined (told_in state old.to) ≡ Some others → Tells state s blocks (start s old)
 tells old taken from to blocks others told to_told = record {
   script = taken.script;
@@ -177,7 +177,7 @@ tells old taken from to blocks others told to_told = record {
 }
 
 run_of : {M I E : Type 0} {state : M → MediumState I} {moves : I → Step → Bool → I → Type 0} {input : Option (List ℕ)} {s : Script} {old new : Hosts M} {source destination : PlaceState M} {result : Result Ending E} (status : Status) →
-    IsTaken s → Spells input s → IsOpened state s.head old.from source → IsOpened state s.head old.to destination → HasGone state moves (start s old) result new → IsAnswer result status → IsRun state moves input old status new
+    IsTaken s → Spells input s → IsOpened state Source s.head old.from source → IsOpened state Destination s.head old.to destination → HasGone state moves (start s old) result new → IsAnswer result status → IsRun state moves input old status new
 run_of {M} {I} {E} {state} {moves} {input} {s} {old} {new} {result = result} status taken spelled from to g answer =
     let stages = g.ran.stages in
     let lines = lines_in s stages in
@@ -220,15 +220,15 @@ run_of {M} {I} {E} {state} {moves} {input} {s} {old} {new} {result = result} sta
 
 -- the same of the places that the hosts were opened as
 pub is_run : {M I E : Type 0} {state : M → MediumState I} {moves : I → Step → Bool → I → Type 0} {input : Option (List ℕ)} {s : Script} {head : Head} {old new : Hosts M} {source destination : PlaceState M} {result : Result Ending E} (status : Status) →
-    IsTaken s → Spells input s → head ≡ s.head → IsOpened state head old.from source → IsOpened state head old.to destination →
+    IsTaken s → Spells input s → head ≡ s.head → IsOpened state Source head old.from source → IsOpened state Destination head old.to destination →
     HasGone state moves (start_of (serial s) (media_of source.namespace) (media_of destination.namespace) old.out) result new → IsAnswer result status → IsRun state moves input old status new
 is_run {M} {state = state} {moves} {s = s} {head} {old} {new} {source} {destination} {result} status taken spelled same from to g answer =
-    run_of status taken spelled (subst (λ (h : Head). IsOpened state h old.from source) same from) (subst (λ (h : Head). IsOpened state h old.to destination) same to)
+    run_of status taken spelled (subst (λ (h : Head). IsOpened state Source h old.from source) same from) (subst (λ (h : Head). IsOpened state Destination h old.to destination) same to)
     (rw (← from.opened.media_are, ← to.opened.media_are) g) answer
 
 -- a place is a new one for its script
-pub new_place : {M I : Type 0} {state : M → MediumState I} {head other : Head} {media : List M} {place : PlaceState M} → head ≡ other → IsOpened state head media place → IsNewPlace other (media_of place.namespace) place
-new_place {M} {place = place} same o = subst (λ (h : Head). IsNewPlace h (media_of place.namespace) place) same
+pub new_place : {M I : Type 0} {state : M → MediumState I} {side : Side} {head other : Head} {media : List M} {place : PlaceState M} → head ≡ other → IsOpened state side head media place → IsNewPlace (phase_at side) other (media_of place.namespace) place
+new_place {M} {side = side} {place = place} same o = subst (λ (h : Head). IsNewPlace (phase_at side) h (media_of place.namespace) place) same
     (record { namespace = o.opened.namespace; media_are = refl; windows = o.opened.windows; controller = o.opened.controller })
 
 -- the output's count rose where it failed

@@ -2,6 +2,7 @@
 ghost use Rattle.std.specs.Prelude.{◌≡◌, ◌/◌, [], IfOk, OnErr, OnOk, replicate};
 ghost use Rattle.nvm_model.specs.Medium.{HaveSize, sizes_in};
 ghost use Rattle.nvm_model.specs.ScriptText.{IsHead};
+ghost use Rattle.nvm_model.specs.declared.run.Side.TheVariants.{Source, Destination};
 ghost use Rattle.nvm_blocks.specs.Namespace.{media_of};
 ghost use Rattle.session.specs.Shelves.{IsNamespaceOf};
 ghost use Rattle.engine.specs.Claims.{IsAsBefore};
@@ -13,6 +14,7 @@ use guest_ram::Host;
 use mig_base::OutOfMemory;
 use mig_medium::Medium;
 use nvm_blocks::Namespace;
+use nvm_model::Side;
 use script::Head;
 use session::Place;
 use std::alloc::Global;
@@ -55,16 +57,16 @@ pub(crate) fn open_places<M: Medium>(
         ≡ replicate (head.now.blocks / head.now.shelf) head.now.shelf }
     requires to_sizes { sizes_in M.state to.old.shelves.items
         ≡ replicate (head.now.blocks / head.now.shelf) head.now.shelf }
-    ensures opened { IfOk result (λ x. IsOpened M.state head.now from.old.shelves.items x.0
-        × IsOpened M.state head.now to.old.shelves.items x.1) }
+    ensures opened { IfOk result (λ x. IsOpened M.state Source head.now from.old.shelves.items x.0
+        × IsOpened M.state Destination head.now to.old.shelves.items x.1) }
     ensures taken { OnOk result ((from.new.shelves.items ≡ []) × (to.new.shelves.items ≡ [])) }
     ensures back { OnErr result (IsAsBefore from.old from.new × IsAsBefore to.old to.new) }
 {
-    let source = match open_place(alloc, head, from) {
+    let source = match open_place(alloc, head, Side::Source, from) {
         Ok(place) => place,
         Err(OutOfMemory) => return Err(OutOfMemory),
     };
-    match open_place(alloc, head, to) {
+    match open_place(alloc, head, Side::Destination, to) {
         Ok(destination) => Ok((source, destination)),
         Err(OutOfMemory) => {
             let (namespace, _, _) = source.shut();
@@ -74,22 +76,23 @@ pub(crate) fn open_places<M: Medium>(
     }
 }
 
-/// Opens a host as a place.
+/// Opens a host as the place of a side.
 fn open_place<M: Medium>(
     alloc: Global,
     head: &Head,
+    side: Side,
     host: &mut Host<M>,
 ) -> Result<Place<M>, OutOfMemory>
     requires head { IsHead head.now }
     requires sizes { sizes_in M.state host.old.shelves.items
         ≡ replicate (head.now.blocks / head.now.shelf) head.now.shelf }
-    ensures opened { IfOk result (IsOpened M.state head.now host.old.shelves.items) }
+    ensures opened { IfOk result (IsOpened M.state side head.now host.old.shelves.items) }
     ensures taken { OnOk result (host.new.shelves.items ≡ []) }
     ensures back { OnErr result (host.new.shelves.items ≡ host.old.shelves.items) }
     ensures ram { host.new.ram ≡ host.old.ram }
 {
     let ram = make_ram(alloc, head)?;
-    let controller = make_controller(alloc, head)?;
+    let controller = make_controller(alloc, head, side)?;
     let namespace = take_namespace(alloc, head, host)?;
     Ok(Place::open(namespace, ram, controller))
 }

@@ -9,6 +9,7 @@ ghost use Rattle.engine.specs.Claims.{IsReadRefusal, IsNoScript};
 use crate::Status;
 use mig_base::{CollectRefusal, Source, collect};
 use script::{BadLine, Head, ParseRefusal, Script, parse};
+use session::window_pages;
 use std::alloc::Global;
 
 /// The longest input that is read, in bytes.
@@ -73,17 +74,4 @@ fn moves_suspended(head: &Head) -> bool
         None => true,
         Some(_) => head.small == head.blocks && window_pages(head) <= head.pages,
     }
-}
-
-/// The window pages of all lanes: two for the queues of each, and its data pages.
-fn window_pages(head: &Head) -> u32
-    requires { head.now.lanes ≤ 8 }
-    ensures { result ≡ window_pages head.now }
-{
-    let sets = &head.sets[..usize::from(head.lanes)];
-    let mut pages = 0;
-    for set in sets {
-        pages += u32::from(set.pages) + 2;
-    }
-    pages
 }

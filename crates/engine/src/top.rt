@@ -5,6 +5,7 @@ ghost use Rattle.nvm_model.specs.ScriptText.{IsScript};
 ghost use Rattle.nvm_blocks.specs.Namespace.{media_of};
 ghost use Rattle.nvm_model.specs.Run.{start_of};
 ghost use Rattle.nvm_model.specs.Told.{serial};
+ghost use Rattle.controller.specs.declared.controller.Phase.TheVariants.{Loading, Running};
 ghost use Rattle.session.specs.Opened.{IsNewPlace};
 ghost use Rattle.session.specs.Sides.{IsNewSession, sink};
 ghost use Rattle.engine.specs.Built.{IsTaken, Spells};
@@ -150,8 +151,8 @@ fn run_places<K: Sink, M: Medium>(
     to: &mut Host<M>,
 ) -> Result<Ending, Failed>
     requires new { IsScript session.script × IsNewSession session.script session }
-    requires source { IsNewPlace session.script.head (media_of source.namespace) source }
-    requires destination { IsNewPlace session.script.head (media_of destination.namespace) destination }
+    requires source { IsNewPlace Running session.script.head (media_of source.namespace) source }
+    requires destination { IsNewPlace Loading session.script.head (media_of destination.namespace) destination }
     requires empty { (from.old.shelves.items ≡ []) × (to.old.shelves.items ≡ []) }
     ensures gone { HasGone M.state M.moves (start_of (serial session.script) (media_of source.namespace)
         (media_of destination.namespace) (sink (K.bytes output.old) (K.faults output.old))) result

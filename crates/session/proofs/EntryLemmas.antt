@@ -111,7 +111,8 @@ plan_cleared {M} {s} {runs} {plan} {old} {new} same is = subst (λ (p : PlaceSta
   fit = record {
     head = is.fit.head;
     own = is.fit.own;
-    at = record { namespace = same_namespace is.fit.at.namespace same.entries.shelves; windows = is.fit.at.windows; pairs = is.fit.at.pairs; burst = is.fit.at.burst; phase = is.fit.at.phase };
+    at = record { namespace = same_namespace is.fit.at.namespace same.entries.shelves; windows = is.fit.at.windows; pairs = is.fit.at.pairs; burst = is.fit.at.burst };
+    running = is.fit.running;
   };
   fits = is.fits;
   planned = is.planned;

@@ -1,8 +1,9 @@
 pub mod AllLanesLemmas
-pub mod CopyLemmas
 pub mod EntryLemmas
 pub mod LanePartLemmas
 pub mod MemoryLemmas
+pub mod MoveCallLemmas
+pub mod MoveLemmas
 pub mod OpenLemmas
 pub mod OrderLemmas
 pub mod PortLemmas

@@ -1,4 +1,6 @@
-use Rattle.std.proofs.Common.{◌≡◌, ℕ, ◌+◌, ◌-◌, ◌<◌, ◌≤◌, List, [], ◌∷◌, length, slice_index_or, refl, sym, ap, ◌∙◌, arith}
+use Rattle.std.proofs.Common.{◌≡◌, ℕ, ◌+◌, ◌-◌, ◌<◌, ◌≤◌, List, [], ◌∷◌, length, slice_index_or, refl, sym, ap, subst, ◌∙◌, arith}
+use Rattle.std.specs.List.{All}
+use Rattle.std.proofs.lemmas.List.Elements.{All-from_get_or}
 use Rattle.nvm_model.specs.declared.script.Script.{Script}
 use Rattle.nvm_model.specs.History.{Complete, IsLaneComplete}
 use Rattle.nvm_model.specs.Ring.{places_between}
@@ -8,7 +10,7 @@ use Rattle.nvm_model.proofs.PlaceLemmas.{places_between-mods}
 use Rattle.guest_ram.specs.Window.{WindowState}
 use Rattle.mig_base.proofs.ListLemmas.{empty_list}
 use Rattle.nvm_ring.proofs.QueueLemmas.{last_told, told_few}
-use Rattle.controller.specs.Pair.{ControllerState, PairState, outcomes_of, pair_of, worked}
+use Rattle.controller.specs.Pair.{ControllerState, PairState, no_pair, outcomes_of, pair_of, worked}
 use Rattle.turns.specs.Frame.{AreAtRest, AreServed, IsAtRest, total_left, work_left}
 use Rattle.nvm_model.specs.Run.{among}
 use Rattle.turns.proofs.PartLaws.{at_rest_from, first_of, later_of, served_from}
@@ -24,8 +26,14 @@ some_of : {X : Type 0} (xs : List X) → 1 ≤ length xs → X
 some_of [] some = absurd (omega (arith, some))
 some_of (x ∷ xs) some = x
 
-some_run : {s : Script} {runs : List LaneRun} → IsScript s → AreRunsOf s runs → LaneRun
+pub some_run : {s : Script} {runs : List LaneRun} → IsScript s → AreRunsOf s runs → LaneRun
 some_run {runs = runs} is are = some_of runs (omega (arith, are.count, is.head.lanes))
+
+-- no command of any pair is under way
+pub all_quiet : {s : Script} {runs : List LaneRun} {c : ControllerState} → AreQuiet s runs c → length c.pairs ≡ s.head.lanes → All (λ (p : PairState). p.commands ≡ []) c.pairs
+all_quiet {c = c} quiet count = All-from_get_or (λ (p : PairState). p.commands ≡ []) c.pairs no_pair (λ i there.
+    let place : i + 1 - 1 ≡ i = omega arith in
+    subst (λ (j : ℕ). (slice_index_or c.pairs j no_pair).commands ≡ []) place (quiet.commands (i + 1) (omega arith) (omega (arith, there, count))))
 
 -- One lane.
 

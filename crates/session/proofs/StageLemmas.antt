@@ -1,6 +1,7 @@
-use Rattle.std.proofs.Common.{◌≡◌, ◌⊎◌, inl, inr, ⊎_elim, ℕ, zero, suc, ◌+◌, ◌-◌, ◌≤◌, Bool, true, false, Option, Some, None, Result, Ok, Err, List, [], ◌∷◌, length, refl, sym, ap, subst, ◌∙◌, arith}
+use Rattle.std.proofs.Common.{◌≡◌, ◌⊎◌, inl, inr, ⊎_elim, ℕ, zero, suc, ◌+◌, ◌-◌, ◌<◌, ◌≤◌, slice_index_or, map, Bool, true, false, Option, Some, None, Result, Ok, Err, List, [], ◌∷◌, length, refl, sym, ap, subst, ◌∙◌, arith}
 use Rattle.std.specs.Prelude.{IfOk, IsTrue, is_err}
-use Rattle.std.specs.List.{flat_map}
+use Rattle.std.proofs.Math.ListN.{get_or-map}
+use Rattle.std.proofs.lemmas.List.{length-map}
 use Rattle.mig_base.specs.Stream.{Writes}
 use Rattle.nvm_model.specs.declared.line.Line.{Line}
 use Rattle.nvm_model.specs.declared.line.Line.TheVariants as line
@@ -10,27 +11,32 @@ use Rattle.nvm_model.specs.History.{Complete}
 use Rattle.nvm_model.specs.Medium.{At, IsAt, MediumState}
 use Rattle.nvm_model.specs.Text.{text_of}
 use Rattle.nvm_model.specs.World.{Lane}
-use Rattle.controller.specs.Pair.{ControllerState}
-use Rattle.guest_ram.specs.Ram.{all_pages}
+use Rattle.controller.specs.Pair.{ControllerState, PairState, no_pair, outcomes_of, pair_of, worked}
+use Rattle.controller.specs.Admin.{image_of, with_images, with_rings}
+use Rattle.controller.proofs.AdminLemmas.{length-with_images}
+use Rattle.ctl_state.specs.declared.image.PairState.{PairState as PairImage}
+use Rattle.manager.specs.Move.{ManagerState, gone_on_with}
+use Rattle.nvm_model.specs.declared.command.Command.{Command}
+use Rattle.nvm_model.specs.declared.script.Script.{Script}
+use Rattle.nvm_model.specs.World.{window_pages}
 use Rattle.guest_ram.specs.Window.{WindowState}
 use Rattle.nvm_blocks.specs.Namespace.{media_of}
 use Rattle.nvm_model.specs.declared.run.RunPhase.TheVariants.{New, Running, Suspended, Over}
 use Rattle.nvm_model.specs.declared.run.Side.{Side}
 use Rattle.nvm_model.specs.declared.run.Side.TheVariants.{Source, Destination}
-use Rattle.nvm_model.specs.Run.{AreComplete, CopiesAll, CopiesUpTo, Copy, Here, IsDue, IsTurn, SinkState, Snapshot, Task, all_blocks, among, gets_of, here, lines_of, memory_of, opposite, puts_of, turn_lines}
+use Rattle.nvm_model.specs.Run.{AreComplete, CopiesAll, CopiesUpTo, Copy, Here, IsDue, IsTurn, SinkState, Snapshot, Task, all_blocks, among, here, left_calls, lines_of, memory_of, opposite, taken_calls, turn_lines}
 use Rattle.nvm_model.specs.Run.Stage.{Title, Turn, Begin, Resume, GiveUp, End}
 use Rattle.turns.proofs.RunLaws.{went_more, went_none, went_sent}
 use Rattle.session.specs.declared.ending.Ending.TheVariants.{Done, GaveUp}
 use Rattle.session.specs.declared.lane_run.LaneRun.{LaneRun}
 use Rattle.session.specs.declared.order.Order.{Order}
-use Rattle.session.specs.Copies.{CopiesTo, HandsOver, both}
+use Rattle.manager.specs.declared.manager.Pause.{Pause}
+use Rattle.session.specs.Moves.{Moves, Stays, Tries, both}
 use Rattle.session.specs.Lanes.{HaveWindows}
-use Rattle.session.specs.Shelves.{IsNamespaceOf}
 use Rattle.nvm_model.specs.Told.{serial}
-use Rattle.session.specs.Place.{AreAllDone, AreQuiet, DoesTurn, IsPlaceOf, IsReady, PlaceState, StandsFor, StandsOn, machine, pages_of}
-use Rattle.session.specs.Port.{SamePlace}
-use Rattle.session.specs.Sides.{Goes, IsAhead, IsDueAfter, IsEnding, IsMoveDue, IsOnward, SessionState, Sides, at_side, by_side, less_one, machine_of, sides, turns_ahead}
-use Rattle.session.proofs.MemoryLemmas.{have_pages, same_pages, same_windows, whole_memory}
+use Rattle.session.specs.Place.{AreAllDone, DoesTurn, IsReady, IsWaiting, PlaceState, StandsFor, StandsOn, machine, pages_of}
+use Rattle.session.specs.Sides.{Goes, IsAhead, IsDueAfter, IsEnding, IsMoveDue, IsOnward, IsRunning, SessionState, Sides, at_side, by_side, less_one, machine_of, sides, turns_ahead}
+use Rattle.session.proofs.MemoryLemmas.{whole_memory}
 use Rattle.session.proofs.ShelvesLemmas.{same_namespace}
 use Rattle.session.proofs.RestLemmas.{complete_is, done_is}
 
@@ -50,6 +56,7 @@ onward_more a b = record {
   script = b.script ∙ a.script;
   side = b.side ∙ a.side;
   ahead = (λ none. b.ahead.0 (a.ahead.0 none), λ none. a.ahead.1 (b.ahead.1 none));
+  manager = b.manager ∙ a.manager;
   running = b.running;
 }
 
@@ -168,140 +175,187 @@ goes_turn {M} {I} {T} {E} {state} {moves} {s} {at} {new_at} {other} {out} {sent}
 
 -- The move.
 
--- a place's shelves have the script's length
-shelf_is : {M : Type 0} {old at : PlaceState M} (s : SessionState) (t : Snapshot M) → t.task ≡ serial s.script → IsPlaceOf s.script at → SamePlace old at → old.namespace.shelf ≡ t.task.script.head.shelf
-shelf_is s t task is same = sym same.shelves.shelf ∙ is.namespace.shelf ∙ ap (λ (k : Task). k.script.head.shelf) (sym task)
+-- calls of a move between media that are the same
+calls_along : {M : Type 0} {s : Script} {k : Task} {a b : List M} (R : List M → At → List M → Type 0) (x : List M) (calls : Script → List Copy → List At) (copies : List Copy) → k ≡ serial s → b ≡ a → Chain R a (calls s copies) x → Chain R b (calls k.script copies) x
+calls_along {M} {s} {k} {a} {b} R x calls copies task media c = subst (λ (j : Task). Chain R b (calls j.script copies) x) (sym task) (subst (λ (m : List M). Chain R m (calls s copies) x) (sym media) c)
 
--- calls of copies between media that are the same
-calls_along : {M : Type 0} (R : List M → At → List M → Type 0) (calls : ℕ → Copy → List At) (copies : List Copy) {j k : ℕ} {a b x y : List M} → b ≡ a → j ≡ k → y ≡ x → Chain R a (flat_map (calls j) copies) x → Chain R b (flat_map (calls k) copies) y
-calls_along {M} R calls copies {j} {k} {a} {b} {x} {y} e f g c =
-    subst (λ (m : List M). Chain R m (flat_map (calls k) copies) y) (sym e) (subst (λ (m : List M). Chain R a (flat_map (calls k) copies) m) (sym g) (subst (λ (n : ℕ). Chain R a (flat_map (calls n) copies) x) f c))
+-- two controllers have the same rings, and no command under way
+record HaveSameRings (s : Script) (old new : ControllerState) : Type 0 where
+  sq : (k : ℕ) → 1 ≤ k → k ≤ s.head.lanes → (pair_of new k).sq ≡ (pair_of old k).sq
+  cq : (k : ℕ) → 1 ≤ k → k ≤ s.head.lanes → (pair_of new k).cq ≡ (pair_of old k).cq
+  commands : (k : ℕ) → 1 ≤ k → k ≤ s.head.lanes → (pair_of new k).commands ≡ (pair_of old k).commands
 
--- a machine whose place's media alone changed is ready as before
-pub ready_copied : {M : Type 0} {old at : PlaceState M} (s : SessionState) → IsReady s.script (machine_of s old) → SamePlace old at → IsReady s.script (machine_of s at)
-ready_copied {M} {old} {at} s ready same =
-    let controller : at.controller ≡ old.controller = ap (λ (p : PlaceState M). p.controller) same.rest in
-    let windows : at.windows ≡ old.windows = ap (λ (p : PlaceState M). p.windows) same.rest in
-    record {
-      script = ready.script;
-      runs = ready.runs;
-      place = record {
-        namespace = same_namespace ready.place.namespace same.shelves;
-        windows = subst (HaveWindows s.script) (sym windows) ready.place.windows;
-        pairs = ap (λ (c : ControllerState). length c.pairs) controller ∙ ready.place.pairs;
-        burst = ap (λ (c : ControllerState). c.burst) controller ∙ ready.place.burst;
+stands_with : {s : Script} {runs : List LaneRun} {old new : ControllerState} {windows : List WindowState} {lanes : List Lane} → HaveSameRings s old new → StandsFor s runs old windows lanes → StandsFor s runs new windows lanes
+stands_with {s} {runs} same stands = record {
+  count = stands.count;
+  each = λ k d e low high.
+      let was = stands.each k d e low high in
+      record {
+        number = was.number;
+        guest = was.guest;
+        window_is = was.window_is;
+        ordered = was.ordered;
+        guest_ends = was.guest_ends;
+        ends = record { sq_is = same.sq k low high ∙ was.ends.sq_is; cq_is = same.cq k low high ∙ was.ends.cq_is };
+        acts = was.acts;
+        running = was.running ∙ ap (λ (cs : List Command). worked s.head.shelf cs (outcomes_of (slice_index_or runs (k - 1) d).results.items)) (sym (same.commands k low high));
       };
-      running = ap (λ (c : ControllerState). c.phase) controller ∙ ready.running;
-      mix = ready.mix;
-      quiet = subst (AreQuiet s.script s.runs) (sym controller) ready.quiet;
-      stood = record ready.stood { media = media_of at.namespace };
-      stands = record {
-        lanes = subst (λ (c : ControllerState). StandsFor s.script s.runs c at.windows ready.stood.lanes) (sym controller)
-            (subst (λ (ws : List WindowState). StandsFor s.script s.runs old.controller ws ready.stood.lanes) (sym windows) ready.stands.lanes);
-        media = refl;
-        words = ready.stands.words;
-      };
-    }
+}
 
--- what stood for lanes on a place stands for them on the other one, to which it was handed over
-lanes_there : {M : Type 0} (s : SessionState) {at to new_at new_to : PlaceState M} (lanes : List Lane) → IsPlaceOf s.script at → IsPlaceOf s.script to → HandsOver (both at to) (both new_at new_to) →
-    StandsFor s.script s.runs at.controller at.windows lanes → StandsFor s.script s.runs new_to.controller new_to.windows lanes
-lanes_there {M} s {at} {to} {new_at} {new_to} lanes is place handed stands =
-    subst (λ (c : ControllerState). StandsFor s.script s.runs c new_to.windows lanes) (sym (ap (λ (p : PlaceState M). p.controller) handed.to_is))
-    (same_pages is.windows (same_windows place.windows handed.shape) handed.pages stands)
+-- a pair that took an image
+rings_at : (images : List PairImage) (pairs : List PairState) (i : ℕ) (e : PairImage) (d : PairState) → i < length images → i < length pairs →
+    slice_index_or (with_images images pairs) i d ≡ with_rings (slice_index_or images i e) (slice_index_or pairs i d)
+rings_at [] pairs i e d there here = absurd (omega (arith, there))
+rings_at (image ∷ images) [] i e d there here = absurd (omega (arith, here))
+rings_at (image ∷ images) (pair ∷ pairs) zero e d there here = refl
+rings_at (image ∷ images) (pair ∷ pairs) (suc i) e d there here = rings_at images pairs i e d (omega (arith, there)) (omega (arith, here))
 
--- a machine is ready there
-pub ready_there : {M : Type 0} (s : SessionState) {at to new_at new_to : PlaceState M} → IsReady s.script (machine_of s at) → IsPlaceOf s.script to → HandsOver (both at to) (both new_at new_to) → IsReady s.script (machine_of s new_to)
-ready_there {M} s {at} {to} {new_at} {new_to} ready place handed =
-    let controller : new_to.controller ≡ at.controller = ap (λ (p : PlaceState M). p.controller) handed.to_is in
-    let namespace : new_to.namespace ≡ to.namespace = ap (λ (p : PlaceState M). p.namespace) handed.to_is in
-    record {
-      script = ready.script;
-      runs = ready.runs;
-      place = record {
-        namespace = subst (IsNamespaceOf s.script.head) (sym namespace) place.namespace;
-        windows = same_windows place.windows handed.shape;
-        pairs = ap (λ (c : ControllerState). length c.pairs) controller ∙ ready.place.pairs;
-        burst = ap (λ (c : ControllerState). c.burst) controller ∙ ready.place.burst;
-      };
-      running = ap (λ (c : ControllerState). c.phase) controller ∙ ready.running;
-      mix = ready.mix;
-      quiet = subst (AreQuiet s.script s.runs) (sym controller) ready.quiet;
-      stood = record ready.stood { media = media_of new_to.namespace };
-      stands = record { lanes = lanes_there s ready.stood.lanes ready.place place handed ready.stands.lanes; media = refl; words = ready.stands.words };
-    }
+module _ {M : Type 0} (s : SessionState) (new : ControllerState) {at to : PlaceState M} (ready : IsReady s.script (machine_of s at)) (waits : IsWaiting s.script to)
+    (is : new ≡ record (gone_on_with (map image_of at.controller.pairs) to.controller) { fed = new.fed }) where
+  pair_there : (k : ℕ) → 1 ≤ k → k ≤ s.script.head.lanes → pair_of new k ≡ with_rings (image_of (pair_of at.controller k)) (pair_of to.controller k)
+  pair_there k low high =
+      let many = length-map at.controller.pairs image_of in
+      ap (λ (c : ControllerState). pair_of c k) is
+      ∙ rings_at (map image_of at.controller.pairs) to.controller.pairs (k - 1) (image_of no_pair) no_pair (omega (arith, many, ready.place.pairs, low, high)) (omega (arith, waits.at.pairs, low, high))
+      ∙ ap (λ (image : PairImage). with_rings image (pair_of to.controller k)) (get_or-map image_of at.controller.pairs (k - 1) no_pair)
 
--- what stood for lanes before blocks were copied stands for them afterwards
-lanes_after : {M : Type 0} (s : SessionState) {old at : PlaceState M} (lanes : List Lane) → SamePlace old at → StandsFor s.script s.runs old.controller old.windows lanes → StandsFor s.script s.runs at.controller at.windows lanes
-lanes_after {M} s {old} {at} lanes same stands =
-    subst (λ (p : PlaceState M). StandsFor s.script s.runs p.controller p.windows lanes) (sym same.rest) stands
+  quiet_there : (k : ℕ) → 1 ≤ k → k ≤ s.script.head.lanes → (pair_of new k).commands ≡ []
+  quiet_there k low high = ap (λ (p : PairState). p.commands) (pair_there k low high) ∙ waits.quiet (k - 1) no_pair (omega (arith, waits.at.pairs, low, high))
 
--- the run goes on at the other side
-pub goes_resume : {M I T E : Type 0} {state : M → MediumState I} {moves : I → Step → Bool → I → Type 0} {s : SessionState} {old_at old_to at to new_at new_to : PlaceState M} {out sent : SinkState} {result : Result T E} →
-    s.phase ≡ Suspended → IsReady s.script (machine_of s at) → IsPlaceOf s.script to → CopiesTo state moves (all_blocks s.script) (both old_at old_to) false (both at to) →
-    HandsOver (both at to) (both new_at new_to) → (pages : ℕ) → pages ≡ length (all_pages new_to.windows) → Writes (text_of (line.Pause s.script.head.blocks pages ∷ line.ResumeTo ∷ [])) out.taken sent.taken out.faults sent.faults result →
-    Goes state moves (sides s old_at old_to out) (is_err result) (sides (record s { phase = Running; side = opposite s.side }) new_to new_at sent)
-goes_resume {M} {I} {T} {E} {state} {moves} {s} {old_at} {old_to} {at} {to} {new_at} {new_to} {out} {sent} {result} was ready place copies handed pages pages_are written t stands =
-    let all = pages_are ∙ have_pages ready.script.head (same_windows place.windows handed.shape) in
-    let shelf = shelf_is s t stands.task ready.place copies.from in
-    let after = lanes_after s t.lanes copies.from stands.lanes.lanes in
-    let there = lanes_there s t.lanes ready.place place handed after in
-    let text : Writes (text_of (lines_of t.task.script (Resume t.side copies.copies))) out.taken sent.taken out.faults sent.faults result =
-    subst (λ (k : Task). Writes (text_of (lines_of k.script (Resume t.side copies.copies))) out.taken sent.taken out.faults sent.faults result) (sym stands.task)
-    (subst (λ (n : ℕ). Writes (text_of (line.Pause s.script.head.blocks n ∷ line.ResumeTo ∷ [])) out.taken sent.taken out.faults sent.faults result) all written) in
-    record {
-      end = record t { phase = Running; side = opposite t.side; at = media_of new_to.namespace; other = media_of new_at.namespace; left = memory_of t.task.script t.lanes; out = sent };
-      went = went_sent (Resume t.side copies.copies) (record {
-        was = stands.phase ∙ was;
-        stood = refl;
-        copies_all = subst (λ (k : Task). CopiesAll (all_blocks k.script) copies.copies) (sym stands.task) copies.ended;
-        gets = calls_along (IsAt state moves) gets_of copies.copies stands.lanes.media shelf (ap (λ (p : PlaceState M). media_of p.namespace) handed.from_is) copies.gets;
-        puts = calls_along (IsAt state moves) puts_of copies.copies stands.other shelf (ap (λ (p : PlaceState M). media_of p.namespace) handed.to_is) copies.puts;
-        after = refl;
-      }) (sent_from stands.out text);
-      stands = record {
-        task = stands.task;
-        phase = refl;
-        side = ap opposite stands.side;
-        ahead = stands.ahead;
-        lanes = record { lanes = there; media = refl; words = stands.lanes.words };
-        memory = ap (λ (k : Task). memory_of k.script t.lanes) stands.task ∙ sym (whole_memory ready.script ready.runs (same_windows place.windows handed.shape) there);
-        other = refl;
-        left = ap (λ (k : Task). memory_of k.script t.lanes) stands.task ∙ sym (whole_memory ready.script ready.runs ready.place.windows after)
-            ∙ sym (ap (λ (p : PlaceState M). pages_of p.windows) handed.from_is);
-        out = refl;
-      };
-    }
+  rings_there : HaveSameRings s.script at.controller new
+  rings_there = record {
+    sq = λ k low high. ap (λ (p : PairState). p.sq) (pair_there k low high);
+    cq = λ k low high. ap (λ (p : PairState). p.cq) (pair_there k low high);
+    commands = λ k low high. quiet_there k low high ∙ sym (ready.quiet.commands k low high);
+  }
 
--- the run goes on where it was
-pub goes_stay : {M I T E : Type 0} {state : M → MediumState I} {moves : I → Step → Bool → I → Type 0} {s : SessionState} {old_at old_to at to : PlaceState M} {out sent : SinkState} {result : Result T E} →
-    s.phase ≡ Suspended → IsReady s.script (machine_of s at) → CopiesTo state moves (all_blocks s.script) (both old_at old_to) true (both at to) →
-    Writes (text_of (line.GiveUp ∷ [])) out.taken sent.taken out.faults sent.faults result →
-    Goes state moves (sides s old_at old_to out) (is_err result) (sides (record s { phase = Running }) at to sent)
-goes_stay {M} {state = state} {moves} {s = s} {at = at} {to = to} {sent = sent} was ready copies written t stands =
-    let shelf = shelf_is s t stands.task ready.place copies.from in
-    record {
-      end = record t { phase = Running; at = media_of at.namespace; other = media_of to.namespace; out = sent };
-      went = went_sent (GiveUp t.side copies.copies) (record {
-        was = stands.phase ∙ was;
-        stood = refl;
-        copies_stop = subst (λ (k : Task). CopiesUpTo (all_blocks k.script) copies.copies) (sym stands.task) copies.ended;
-        gets = calls_along (IsAt state moves) gets_of copies.copies stands.lanes.media shelf refl copies.gets;
-        puts = calls_along (IsAt state moves) puts_of copies.copies stands.other shelf refl copies.puts;
-        after = refl;
-      }) (sent_from stands.out written);
-      stands = record {
-        task = stands.task;
-        phase = refl;
-        side = stands.side;
-        ahead = stands.ahead;
-        lanes = record { lanes = lanes_after s t.lanes copies.from stands.lanes.lanes; media = refl; words = stands.lanes.words };
-        memory = stands.memory ∙ sym (ap (λ (p : PlaceState M). pages_of p.windows) copies.from.rest);
-        other = refl;
-        left = stands.left ∙ sym (ap (λ (p : PlaceState M). pages_of p.windows) copies.to.rest);
-        out = refl;
-      };
-    }
+  pairs_there : length new.pairs ≡ s.script.head.lanes
+  pairs_there = ap (λ (c : ControllerState). length c.pairs) is ∙ length-with_images (map image_of at.controller.pairs) to.controller.pairs ∙ waits.at.pairs
+
+module _ {M I : Type 0} {state : M → MediumState I} {moves : I → Step → Bool → I → Type 0} (s : SessionState) {at to new_at new_to : PlaceState M} (ready : IsReady s.script (machine_of s at)) where
+  -- what stood for lanes here stands for them there
+  lanes_there : IsWaiting s.script to → (m : Moves state moves s.script (both at to) (both new_at new_to)) → (lanes : List Lane) → StandsFor s.script s.runs at.controller at.windows lanes → StandsFor s.script s.runs new_to.controller new_to.windows lanes
+  lanes_there waits m lanes stands = subst (λ (ws : List WindowState). StandsFor s.script s.runs new_to.controller ws lanes) (sym m.to_memory) (stands_with (rings_there s new_to.controller ready waits m.controllers.1) stands)
+
+  -- a machine is ready there
+  pub ready_there : IsWaiting s.script to → Moves state moves s.script (both at to) (both new_at new_to) → IsReady s.script (machine_of s new_to)
+  ready_there waits m = record {
+    script = ready.script;
+    runs = ready.runs;
+    place = record {
+      namespace = same_namespace waits.at.namespace m.crosses.to_shelves;
+      windows = subst (HaveWindows s.script) (sym m.to_memory) ready.place.windows;
+      pairs = pairs_there s new_to.controller ready waits m.controllers.1;
+      burst = ap (λ (c : ControllerState). c.burst) m.controllers.1 ∙ waits.at.burst;
+    };
+    running = ap (λ (c : ControllerState). c.phase) m.controllers.1;
+    mix = ready.mix;
+    quiet = record { commands = quiet_there s new_to.controller ready waits m.controllers.1; results = ready.quiet.results };
+    stood = record ready.stood { media = media_of new_to.namespace };
+    stands = record { lanes = lanes_there waits m ready.stood.lanes ready.stands.lanes; media = refl; words = ready.stands.words };
+  }
+
+  -- or here, where the guests stayed
+  lanes_here : Stays state moves s.script (both at to) (both new_at new_to) → (lanes : List Lane) → StandsFor s.script s.runs at.controller at.windows lanes → StandsFor s.script s.runs new_at.controller new_at.windows lanes
+  lanes_here m lanes stands =
+      subst (λ (ws : List WindowState). StandsFor s.script s.runs new_at.controller ws lanes) (sym m.crosses.from_memory)
+      (subst (λ (c : ControllerState). StandsFor s.script s.runs c at.windows lanes) (sym m.controllers.0) (record { count = stands.count; each = stands.each }))
+
+  pub ready_here : Stays state moves s.script (both at to) (both new_at new_to) → IsReady s.script (machine_of s new_at)
+  ready_here m =
+      let pairs : new_at.controller.pairs ≡ at.controller.pairs = ap (λ (c : ControllerState). c.pairs) m.controllers.0 in
+      record {
+        script = ready.script;
+        runs = ready.runs;
+        place = record {
+          namespace = same_namespace ready.place.namespace m.crosses.from_shelves;
+          windows = subst (HaveWindows s.script) (sym m.crosses.from_memory) ready.place.windows;
+          pairs = ap length pairs ∙ ready.place.pairs;
+          burst = ap (λ (c : ControllerState). c.burst) m.controllers.0 ∙ ready.place.burst;
+        };
+        running = ap (λ (c : ControllerState). c.phase) m.controllers.0;
+        mix = ready.mix;
+        quiet = record { commands = λ k low high. ap (λ (ps : List PairState). (slice_index_or ps (k - 1) no_pair).commands) pairs ∙ ready.quiet.commands k low high; results = ready.quiet.results };
+        stood = record ready.stood { media = media_of new_at.namespace };
+        stands = record { lanes = lanes_here m ready.stood.lanes ready.stands.lanes; media = refl; words = ready.stands.words };
+      }
+
+  -- the run goes on at the other side
+  goes_resume : {T E : Type 0} {out sent : SinkState} {result : Result T E} (manager : ManagerState) → s.phase ≡ Suspended → IsWaiting s.script to → Moves state moves s.script (both at to) (both new_at new_to) →
+      Writes (text_of (line.Pause s.script.head.blocks (window_pages s.script.head) ∷ line.ResumeTo ∷ [])) out.taken sent.taken out.faults sent.faults result →
+      Goes state moves (sides s at to out) (is_err result) (sides (record s { phase = Running; side = opposite s.side; manager = manager }) new_to new_at sent)
+  goes_resume {T} {E} {out} {sent} {result} manager was waits m written t stands =
+      let there = lanes_there waits m t.lanes stands.lanes.lanes in
+      let text : Writes (text_of (lines_of t.task.script (Resume t.side m.copies))) out.taken sent.taken out.faults sent.faults result =
+      subst (λ (k : Task). Writes (text_of (lines_of k.script (Resume t.side m.copies))) out.taken sent.taken out.faults sent.faults result) (sym stands.task) written in
+      let memory = ap (λ (k : Task). memory_of k.script t.lanes) stands.task ∙ sym (whole_memory ready.script ready.runs ready.place.windows stands.lanes.lanes) in
+      record {
+        end = record t { phase = Running; side = opposite t.side; at = media_of new_to.namespace; other = media_of new_at.namespace; left = memory_of t.task.script t.lanes; out = sent };
+        went = went_sent (Resume t.side m.copies) (record {
+          was = stands.phase ∙ was;
+          stood = refl;
+          copies_all = subst (λ (k : Task). CopiesAll (all_blocks k.script) m.copies) (sym stands.task) m.all;
+          gets = calls_along (IsAt state moves) (media_of new_at.namespace) left_calls m.copies stands.task stands.lanes.media m.crosses.gets;
+          puts = calls_along (IsAt state moves) (media_of new_to.namespace) taken_calls m.copies stands.task stands.other m.crosses.puts;
+          after = refl;
+        }) (sent_from stands.out text);
+        stands = record {
+          task = stands.task;
+          phase = refl;
+          side = ap opposite stands.side;
+          ahead = stands.ahead;
+          lanes = record { lanes = there; media = refl; words = stands.lanes.words };
+          memory = memory ∙ sym (ap pages_of m.to_memory);
+          other = refl;
+          left = memory ∙ sym (ap pages_of m.crosses.from_memory);
+          out = refl;
+        };
+      }
+
+  -- the run goes on where it was
+  goes_stay : {T E : Type 0} {out sent : SinkState} {result : Result T E} (manager : ManagerState) → s.phase ≡ Suspended → Stays state moves s.script (both at to) (both new_at new_to) →
+      Writes (text_of (line.GiveUp ∷ [])) out.taken sent.taken out.faults sent.faults result →
+      Goes state moves (sides s at to out) (is_err result) (sides (record s { phase = Running; manager = manager }) new_at new_to sent)
+  goes_stay {sent = sent} manager was m written t stands = record {
+    end = record t { phase = Running; at = media_of new_at.namespace; other = media_of new_to.namespace; out = sent };
+    went = went_sent (GiveUp t.side m.copies) (record {
+      was = stands.phase ∙ was;
+      stood = refl;
+      copies_stop = subst (λ (k : Task). CopiesUpTo (all_blocks k.script) m.copies) (sym stands.task) m.up_to;
+      gets = calls_along (IsAt state moves) (media_of new_at.namespace) left_calls m.copies stands.task stands.lanes.media m.crosses.gets;
+      puts = calls_along (IsAt state moves) (media_of new_to.namespace) taken_calls m.copies stands.task stands.other m.crosses.puts;
+      after = refl;
+    }) (sent_from stands.out written);
+    stands = record {
+      task = stands.task;
+      phase = refl;
+      side = stands.side;
+      ahead = stands.ahead;
+      lanes = record { lanes = lanes_here m t.lanes stands.lanes.lanes; media = refl; words = stands.lanes.words };
+      memory = stands.memory ∙ sym (ap pages_of m.crosses.from_memory);
+      other = refl;
+      left = stands.left ∙ sym (ap pages_of m.to_memory);
+      out = refl;
+    };
+  }
+
+  -- by what is said of the session then
+  pub resumed : {T E : Type 0} {out sent : SinkState} {result : Result T E} {pause : Pause} {manager : ManagerState} (next : SessionState) → s.phase ≡ Suspended → IsWaiting s.script to → Tries state moves s.script (Ok pause) (both at to) (both new_at new_to) →
+      Writes (text_of (line.Pause pause.blocks pause.pages ∷ line.ResumeTo ∷ [])) out.taken sent.taken out.faults sent.faults result → next ≡ record s { phase = Running; side = opposite s.side; manager = manager } →
+      Goes state moves (sides s at to out) (is_err result) (sides next new_to new_at sent) × IsRunning next new_to
+  resumed {out = out} {sent} {result} {manager = manager} next was waits m written is =
+      let text = subst (λ (p : Pause). Writes (text_of (line.Pause p.blocks p.pages ∷ line.ResumeTo ∷ [])) out.taken sent.taken out.faults sent.faults result) m.1 written in (
+        subst (λ (n : SessionState). Goes state moves (sides s at to out) (is_err result) (sides n new_to new_at sent)) (sym is) (goes_resume manager was waits m.0 text),
+        subst (λ (n : SessionState). IsRunning n new_to) (sym is) (record { phase = refl; ready = ready_there waits m.0 }),
+      )
+
+  pub stayed : {T E : Type 0} {out sent : SinkState} {result : Result T E} {manager : ManagerState} (next : SessionState) → s.phase ≡ Suspended → Stays state moves s.script (both at to) (both new_at new_to) →
+      Writes (text_of (line.GiveUp ∷ [])) out.taken sent.taken out.faults sent.faults result → next ≡ record s { phase = Running; manager = manager } →
+      Goes state moves (sides s at to out) (is_err result) (sides next new_at new_to sent) × IsRunning next new_at
+  stayed {out = out} {sent} {result} {manager = manager} next was m written is = (
+    subst (λ (n : SessionState). Goes state moves (sides s at to out) (is_err result) (sides n new_at new_to sent)) (sym is) (goes_stay manager was m written),
+    subst (λ (n : SessionState). IsRunning n new_at) (sym is) (record { phase = refl; ready = ready_here m }),
+  )
 
 -- What was said of a session and two places, said of the source and the destination.
 

@@ -1,6 +1,6 @@
-pub mod Copies
 pub mod LaneParts
 pub mod Lanes
+pub mod Moves
 pub mod Opened
 pub mod Phases
 pub mod Place

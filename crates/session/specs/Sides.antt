@@ -1,4 +1,5 @@
 use Rattle.std.specs.Prelude.{◌≡◌, ◌⊎◌, ℕ, ◌+◌, ◌-◌, ◌≤◌, Bool, true, false, List, Option, Some, None, slice_index_or}
+use Rattle.nvm_model.specs.declared.script.Head.{Head}
 use Rattle.nvm_model.specs.declared.script.Script.{Script}
 use Rattle.nvm_model.specs.declared.trace.Step.{Step}
 use Rattle.nvm_model.specs.Medium.{MediumState}
@@ -17,10 +18,15 @@ use Rattle.session.specs.declared.session.Next.TheVariants.{Turn, Move, End}
 use Rattle.nvm_model.specs.Turn.{word_state}
 use Rattle.session.specs.Lanes.{IsNewRun}
 use Rattle.nvm_model.specs.Told.{serial}
-use Rattle.session.specs.Place.{AreRunsOf, AreAllDone, IsReady, Machine, PlaceState, StandsOn, pages_of}
+use Rattle.nvm_model.specs.World.{window_pages}
+use Rattle.manager.specs.declared.manager.MovePhase.TheVariants.{New as Unbegun}
+use Rattle.manager.specs.declared.manager.MoveSet.{MoveSet}
+use Rattle.manager.specs.Move.{ManagerState, with_all}
+use Rattle.session.specs.Moves.{Both, HandsOver}
+use Rattle.session.specs.Place.{AreRunsOf, AreAllDone, IsReady, IsWaiting, Machine, PlaceState, StandsOn, pages_of}
 
 -- What goes where the guests go: the script, the runs of its lanes, the order of pieces, and where the run is. A migration
--- is due after so many turns, where one is asked for and wasn't begun.
+-- is due after so many turns, where one is asked for and wasn't begun; a manager does it.
 pub record SessionState : Type 0 where
   pub script : Script
   pub runs : List LaneRun
@@ -28,6 +34,7 @@ pub record SessionState : Type 0 where
   pub ahead : Option ℕ
   pub phase : RunPhase
   pub side : Side
+  pub manager : ManagerState
 
 -- a session, the place on which it stands, the other one, and the sink
 pub record Sides (M : Type 0) : Type 0 where
@@ -97,6 +104,7 @@ pub record IsOnward {M : Type 0} (old : SessionState) (new : SessionState) (at :
   pub script : new.script ≡ old.script
   pub side : new.side ≡ old.side
   pub ahead : (old.ahead ≡ None → new.ahead ≡ None) × (new.ahead ≡ None → old.ahead ≡ None)
+  pub manager : new.manager ≡ old.manager
   pub running : IsRunning new at
 
 -- a turn less, where there is one
@@ -111,10 +119,26 @@ IsStop false s = AreAllDone s.script s.runs × (IsMoveDue s → ⊥)
 
 -- The move and the end.
 
--- where the guests go on
-abbrev pub IsMoved : {M : Type 0} → Ending → SessionState → PlaceState M → PlaceState M → Type 0
-IsMoved Done new at to = (new.side ≡ Destination) × IsRunning new to
-IsMoved GaveUp new at to = (new.side ≡ Source) × IsRunning new at
+-- what a script asks of a move
+abbrev pub move_set : Head → MoveSet
+move_set h = record { blocks = h.blocks; ram_pages = window_pages h; slice = h.slice; small = h.small; pages = h.pages; patience = h.patience; cells = h.change }
+
+-- a manager of that move, which hasn't begun
+abbrev pub IsNewManager : Script → ManagerState → Type 0
+IsNewManager s m = m ≡ with_all false Unbegun (move_set s.head)
+
+-- a session on the source may move to a place that waits
+pub record MayMove {M : Type 0} (s : SessionState) (at to : PlaceState M) : Type 0 where
+  pub running : IsRunning s at
+  pub due : IsMoveDue s
+  pub source : s.side ≡ Source
+  pub waits : IsWaiting s.script to
+  pub manager : IsNewManager s.script s.manager
+
+-- where the guests go on, and what became of the controllers
+abbrev pub IsMoved : {M : Type 0} → Ending → Both M → SessionState → Both M → Type 0
+IsMoved Done old s new = (s.side ≡ Destination) × IsRunning s new.to × HandsOver Done old new
+IsMoved GaveUp old s new = (s.side ≡ Source) × IsRunning s new.from × HandsOver GaveUp old new
 
 -- the migration that was asked for was begun
 pub record HasBegun (old new : SessionState) : Type 0 where
@@ -158,3 +182,4 @@ pub record IsNewSession (s : Script) (session : SessionState) : Type 0 where
   pub ahead : session.ahead ≡ turns_ahead s.head.migrate
   pub phase : session.phase ≡ New
   pub side : session.side ≡ Source
+  pub manager : IsNewManager s session.manager

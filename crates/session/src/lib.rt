@@ -3,6 +3,7 @@
 //! where the sink failed.
 #![tactic(auto)]
 
+mod cutover;
 mod dest;
 mod ending;
 mod lane_run;
@@ -25,6 +26,6 @@ pub use lane_script::LaneScript;
 pub use order::Order;
 pub use place::Place;
 pub use port::Move;
-pub use session::{Next, Session};
+pub use session::{Next, Session, window_pages};
 pub use turn::MOST_EVENTS;
 pub use whole::run;

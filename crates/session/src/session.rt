@@ -1,16 +1,18 @@
 ghost use Rattle.std.specs.Prelude.{◌≡◌, ◌-◌, ◌≤◌, ℕ, IfOk, IfSome, IsTrue, length, slice_index_or};
-ghost use Rattle.nvm_model.specs.ScriptText.{IsScript};
+ghost use Rattle.nvm_model.specs.ScriptText.{IsHead, IsScript};
+ghost use Rattle.nvm_model.specs.World.{window_pages};
 ghost use Rattle.session.specs.declared.lane_run.LaneRun.{LaneRun};
 ghost use Rattle.session.specs.Lanes.{IsNewRun, IsRunOf};
-ghost use Rattle.session.specs.Sides.{IsDueAfter, IsNewSession, IsNext, turns_ahead};
+ghost use Rattle.session.specs.Sides.{IsDueAfter, IsNewSession, IsNext, move_set, turns_ahead};
 
 use crate::lane_run::LaneRun;
 use crate::order::Order;
 use crate::text::Text;
 use crate::turn::{MOST_EVENTS, are_all_done};
 use hall::Plan;
+use manager::{Manager, MoveSet};
 use mig_base::{LaneNo, OutOfMemory};
-use nvm_model::{Line, RunPhase, Script, Side};
+use nvm_model::{Head, Line, RunPhase, Script, Side};
 use std::alloc::Global;
 use std::marker::Model;
 
@@ -19,8 +21,8 @@ mod stages;
 /// The most pieces that a command has.
 const MOST_PIECES: usize = 64;
 
-/// What goes where the guests go: the script, the guests of its lanes, the order of pieces, and room for a turn and for
-/// text.
+/// What goes where the guests go: the script, the guests of its lanes, the order of pieces, the manager of their move, and
+/// room for a turn and for text.
 #[derive(Drop)]
 pub struct Session {
     script: Script,
@@ -31,6 +33,7 @@ pub struct Session {
     ahead: Option<u32>,
     phase: RunPhase,
     side: Side,
+    manager: Manager,
     plan: Plan,
     // The events of a turn.
     events: Vec<Line>,
@@ -51,6 +54,7 @@ impl Model for Session {
       ahead = s.ahead;
       phase = s.phase;
       side = s.side;
+      manager = s.manager;
     } };
 
     ghost invariant = { λ s. HasRoom s.script s.plan s.events × AreRunsOf s.script s.runs.items };
@@ -81,6 +85,7 @@ impl Session {
         let count = usize::from(head.lanes);
         let order = Order::new(head.mix);
         let ahead = turns_ahead(head.migrate);
+        let manager = Manager::make(alloc, move_set(head))?;
         let plan = Plan::make(alloc, head.lanes, MOST_PIECES * head.burst as usize)?;
         let events = Vec::with_capacity(alloc, MOST_EVENTS * count)?;
         let runs = make_runs(alloc, &script)?;
@@ -92,6 +97,7 @@ impl Session {
             ahead,
             phase: RunPhase::New,
             side: Side::Source,
+            manager,
             plan,
             events,
             text,
@@ -133,6 +139,35 @@ fn turns_ahead(migrate: Option<u32>) -> Option<u32>
         Some(turn) => Some(turn - 1),
         None => None,
     }
+}
+
+/// What a script asks of a move.
+fn move_set(head: &Head) -> MoveSet
+    requires { IsHead head.now }
+    ensures { result ≡ move_set head.now }
+{
+    MoveSet {
+        blocks: head.blocks,
+        ram_pages: window_pages(head),
+        slice: head.slice,
+        small: head.small,
+        pages: head.pages,
+        patience: head.patience,
+        cells: head.change,
+    }
+}
+
+/// The window pages of all lanes: two for the queues of each, and its data pages.
+pub fn window_pages(head: &Head) -> u32
+    requires { head.now.lanes ≤ 8 }
+    ensures { result ≡ window_pages head.now }
+{
+    let sets = &head.sets[..usize::from(head.lanes)];
+    let mut pages = 0;
+    for set in sets {
+        pages += u32::from(set.pages) + 2;
+    }
+    pages
 }
 
 /// The runs of a script's lanes at their start.

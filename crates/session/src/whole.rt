@@ -1,7 +1,7 @@
 // A whole run on one thread.
 ghost use Rattle.std.specs.Prelude.{◌≡◌, is_err, IfOk, None};
 ghost use Rattle.nvm_model.specs.declared.run.RunPhase.TheVariants.{Over};
-ghost use Rattle.session.specs.Place.{IsPlaceOf, IsReady, PlaceState};
+ghost use Rattle.session.specs.Place.{IsReady, IsWaiting, PlaceState};
 ghost use Rattle.session.specs.Sides.{Goes, HasEnded, IsNewSession, IsRunning, by_side, machine_of, sides, sink};
 
 use crate::{Ending, Place, Session};
@@ -21,7 +21,7 @@ pub fn run<M: Medium, K: Sink>(
 ) -> Result<Ending, Failed>
     requires new { IsNewSession session.old.script session.old }
     requires ready { IsReady session.old.script (machine_of session.old from.old) }
-    requires place { IsPlaceOf session.old.script to.old }
+    requires waits { IsWaiting session.old.script to.old }
     ensures went { Goes M.state M.moves
         (sides session.old from.old to.old (sink (K.bytes out.old) (K.faults out.old))) (is_err result)
         (by_side session.new from.new to.new (sink (K.bytes out.new) (K.faults out.new))) }

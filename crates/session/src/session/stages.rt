@@ -1,19 +1,24 @@
 // The stages of a run. Each does its effect, and then its lines go out.
-ghost use Rattle.std.specs.Prelude.{◌≡◌, ◌<◌, true, false, is_err, IfOk, None};
-ghost use Rattle.nvm_model.specs.declared.run.Side.TheVariants.{Source};
+ghost use Rattle.std.specs.Prelude.{◌≡◌, ◌<◌, [], ◌∷◌, is_err, IfOk, None};
+ghost use Rattle.mig_base.specs.Stream.{Writes};
+ghost use Rattle.nvm_model.specs.declared.line.Line.TheVariants as line;
 ghost use Rattle.session.specs.declared.session.Next.TheVariants.{Turn, End};
 ghost use Rattle.nvm_model.specs.declared.run.RunPhase.TheVariants.{New, Running, Suspended, Over};
-ghost use Rattle.nvm_model.specs.Run.{all_blocks, opposite};
+ghost use Rattle.nvm_model.specs.Run.{opposite};
+ghost use Rattle.nvm_model.specs.Text.{text_of};
 ghost use Rattle.session.specs.declared.ending.Ending.TheVariants.{Done, GaveUp};
-ghost use Rattle.session.specs.Place.{IsPlaceOf, IsReady, PlaceState, total_work};
-ghost use Rattle.session.specs.Copies.{CopiesTo, both};
-ghost use Rattle.session.specs.Sides.{Goes, HasBegun, IsMoveDue, IsMoved, IsNext, IsOnward, IsRunning, IsStop};
+ghost use Rattle.session.specs.Moves.{Tries, both};
+ghost use Rattle.session.specs.Place.{IsReady, IsWaiting, PlaceState, total_work};
+ghost use Rattle.session.specs.Sides.{Goes, HasBegun, IsMoveDue, IsMoved, IsNewManager, IsNext, IsOnward, IsRunning};
+ghost use Rattle.session.specs.Sides.{IsStop, MayMove};
 ghost use Rattle.session.specs.Sides.{by_side, less_one, machine_of, sides, sink};
 
 use super::{Next, Session};
 use crate::Ending;
+use crate::cutover::cut_over;
 use crate::place::Place;
 use crate::turn::do_turn;
+use manager::{MediumFault, Pause};
 use mig_base::{Failed, Sink};
 use mig_medium::Medium;
 use nvm_model::{Line, RunPhase, Side};
@@ -93,61 +98,6 @@ impl Session {
         self.text.write(&[Line::Migrate, Line::Suspend], out)
     }
 
-    /// Goes on at the other side, to which all blocks were copied.
-    fn resume<M: Medium, K: Sink>(
-        &mut self,
-        at: &mut Place<M>,
-        to: &mut Place<M>,
-        out: &mut K,
-    ) -> Result<Ending, Failed>
-        requires was { self.old.phase ≡ Suspended }
-        requires ready { IsReady self.old.script (machine_of self.old at.old) }
-        requires place { IsPlaceOf self.old.script to.old }
-        ensures went { (old_at old_to : PlaceState M)
-            → CopiesTo M.state M.moves (all_blocks self.old.script) (both old_at old_to) false (both at.old to.old)
-            → Goes M.state M.moves
-            (sides self.old old_at old_to (sink (K.bytes out.old) (K.faults out.old))) (is_err result)
-            (sides self.new to.new at.new (sink (K.bytes out.new) (K.faults out.new))) }
-        ensures session { self.new ≡ record self.old { phase = Running; side = opposite self.old.side } }
-        ensures running { IsRunning self.new to.new }
-        ensures done { IfOk result (λ ending. ending ≡ Done) }
-    {
-        at.hand_over(to);
-        self.phase = RunPhase::Running;
-        self.side = other_side(self.side);
-        let lines = [
-            Line::Pause {
-                blocks: self.script.head.blocks,
-                pages: to.page_count(),
-            },
-            Line::ResumeTo,
-        ];
-        self.text.write(&lines, out)?;
-        Ok(Ending::Done)
-    }
-
-    /// Goes on where it was, since a call of a medium failed.
-    fn stay<M: Medium, K: Sink>(
-        &mut self,
-        at: &Place<M>,
-        to: &Place<M>,
-        out: &mut K,
-    ) -> Result<Ending, Failed>
-        requires was { self.old.phase ≡ Suspended }
-        requires ready { IsReady self.old.script (machine_of self.old at.now) }
-        ensures went { (old_at old_to : PlaceState M)
-            → CopiesTo M.state M.moves (all_blocks self.old.script) (both old_at old_to) true (both at.now to.now)
-            → Goes M.state M.moves
-            (sides self.old old_at old_to (sink (K.bytes out.old) (K.faults out.old))) (is_err result)
-            (sides self.new at.now to.now (sink (K.bytes out.new) (K.faults out.new))) }
-        ensures session { self.new ≡ record self.old { phase = Running } }
-        ensures gave_up { IfOk result (λ ending. ending ≡ GaveUp) }
-    {
-        self.phase = RunPhase::Running;
-        self.text.write(&[Line::GiveUp], out)?;
-        Ok(Ending::GaveUp)
-    }
-
     /// Moves the guests to the other side, or gives up where a call of a medium fails.
     pub fn move_to<M: Medium, K: Sink>(
         &mut self,
@@ -155,21 +105,64 @@ impl Session {
         to: &mut Place<M>,
         out: &mut K,
     ) -> Result<Ending, Failed>
-        requires running { IsRunning self.old at.old }
-        requires due { IsMoveDue self.old }
-        requires place { IsPlaceOf self.old.script to.old }
-        requires source { self.old.side ≡ Source }
+        requires { MayMove self.old at.old to.old }
         ensures went { Goes M.state M.moves
             (sides self.old at.old to.old (sink (K.bytes out.old) (K.faults out.old))) (is_err result)
             (by_side self.new at.new to.new (sink (K.bytes out.new) (K.faults out.new))) }
-        ensures moved { IfOk result (λ ending. IsMoved ending self.new at.new to.new) }
+        ensures moved { IfOk result (λ ending. IsMoved ending (both at.old to.old) self.new (both at.new to.new)) }
         ensures begun { HasBegun self.old self.new }
     {
         self.suspend(at, out)?;
-        match at.copy_blocks(to) {
-            Ok(()) => self.resume(at, to, out),
-            Err(Failed) => self.stay(at, to, out),
+        match self.cut_over(at, to) {
+            Ok(pause) => self.resume(&pause, out),
+            Err(_) => self.stay(out),
         }
+    }
+
+    /// Brings blocks, memory and state to a side that waits for them, or gives the move up where a call of a medium fails.
+    fn cut_over<M: Medium>(
+        &mut self,
+        at: &mut Place<M>,
+        to: &mut Place<M>,
+    ) -> Result<Pause, MediumFault>
+        requires ready { IsReady self.old.script (machine_of self.old at.old) }
+        requires waits { IsWaiting self.old.script to.old × IsNewManager self.old.script self.old.manager }
+        ensures tried { Tries M.state M.moves self.old.script result (both at.old to.old) (both at.new to.new) }
+        ensures session { self.new ≡ record self.old { manager = self.new.manager } }
+    {
+        cut_over(&mut self.manager, at, to)
+    }
+
+    /// Goes on at the other side.
+    fn resume<K: Sink>(&mut self, pause: &Pause, out: &mut K) -> Result<Ending, Failed>
+        ensures written { Writes (text_of (line.Pause pause.now.blocks pause.now.pages ∷ line.ResumeTo ∷ []))
+            (K.bytes out.old) (K.bytes out.new) (K.faults out.old) (K.faults out.new) result }
+        ensures session { self.new ≡ record self.old { phase = Running; side = opposite self.old.side } }
+        ensures done { IfOk result (λ ending. ending ≡ Done) }
+    {
+        self.phase = RunPhase::Running;
+        self.side = other_side(self.side);
+        let lines = [
+            Line::Pause {
+                blocks: pause.blocks,
+                pages: pause.pages,
+            },
+            Line::ResumeTo,
+        ];
+        self.text.write(&lines, out)?;
+        Ok(Ending::Done)
+    }
+
+    /// Goes on where it was.
+    fn stay<K: Sink>(&mut self, out: &mut K) -> Result<Ending, Failed>
+        ensures written { Writes (text_of (line.GiveUp ∷ []))
+            (K.bytes out.old) (K.bytes out.new) (K.faults out.old) (K.faults out.new) result }
+        ensures session { self.new ≡ record self.old { phase = Running } }
+        ensures gave_up { IfOk result (λ ending. ending ≡ GaveUp) }
+    {
+        self.phase = RunPhase::Running;
+        self.text.write(&[Line::GiveUp], out)?;
+        Ok(Ending::GaveUp)
     }
 
     /// Ends: writes the last line.

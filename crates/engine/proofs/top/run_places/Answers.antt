@@ -6,8 +6,8 @@ use Rattle.engine.proofs.top.run_places.Goals as goal
 pub run-ended-requires-clause-ready : goal.run-ended-requires-clause-ready
 run-ended-requires-clause-ready g c = (opens c.requires.new.0 c.requires.new.1 c.requires.source c.requires.destination).ready
 
-pub run-ended-requires-clause-place : goal.run-ended-requires-clause-place
-run-ended-requires-clause-place g c = (opens c.requires.new.0 c.requires.new.1 c.requires.source c.requires.destination).place
+pub run-ended-requires-clause-waits : goal.run-ended-requires-clause-waits
+run-ended-requires-clause-waits g c = (opens c.requires.new.0 c.requires.new.1 c.requires.source c.requires.destination).waits
 
 pub returns : goal.returns
 returns g c = record {

@@ -1,6 +1,7 @@
 use Rattle.std.proofs.Common.{◌∙◌, subst, ap}
 use Rattle.std.proofs.lemmas.Result.{err_from_is_err_and}
 use Rattle.session.specs.declared.ending.Ending.{Ending}
+use Rattle.session.specs.Moves.{both}
 use Rattle.session.specs.Sides.{IsMoved, SessionState}
 use Rattle.session.proofs.StageLemmas.{as_destination, as_source, goes_more, on_destination, on_source}
 use Rattle.session.proofs.whole.run.Goals as goal
@@ -24,12 +25,12 @@ returns-in_err-move_to-clause-went g c =
 
 pub returns-in-Done-clause-went : goal.returns-in-Done-clause-went
 returns-in-Done-clause-went g c =
-    let moved = subst (λ (e : Ending). IsMoved e c.move_to.new.self c.move_to.new.at c.move_to.new.to) c.in-Done.is c.in_ok-move_to.ensures.moved in
+    let moved = subst (λ (e : Ending). IsMoved e (both c.turns.new.at c.args.to.now) c.move_to.new.self (both c.move_to.new.at c.move_to.new.to)) c.in-Done.is c.in_ok-move_to.ensures.moved in
     let before = goes_more (c.in_ok-begin.ensures.went c.args.to.now) (c.in_ok-turns.ensures.went c.args.to.now) in
     on_destination (c.finish.ensures.kept.1 ∙ moved.0) (goes_more (goes_more before (as_destination moved.0 c.in_ok-move_to.ensures.went)) (c.finish.ensures.went c.move_to.new.at))
 
 pub returns-in-GaveUp-clause-went : goal.returns-in-GaveUp-clause-went
 returns-in-GaveUp-clause-went g c =
-    let moved = subst (λ (e : Ending). IsMoved e c.move_to.new.self c.move_to.new.at c.move_to.new.to) c.in-GaveUp.is c.in_ok-move_to.ensures.moved in
+    let moved = subst (λ (e : Ending). IsMoved e (both c.turns.new.at c.args.to.now) c.move_to.new.self (both c.move_to.new.at c.move_to.new.to)) c.in-GaveUp.is c.in_ok-move_to.ensures.moved in
     let before = goes_more (c.in_ok-begin.ensures.went c.args.to.now) (c.in_ok-turns.ensures.went c.args.to.now) in
     on_source (c.finish-in-GaveUp.ensures.kept.1 ∙ moved.0) (goes_more (goes_more before (as_source moved.0 c.in_ok-move_to.ensures.went)) (c.finish-in-GaveUp.ensures.went c.move_to.new.to))

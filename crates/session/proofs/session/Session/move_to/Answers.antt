@@ -1,40 +1,45 @@
-use Rattle.std.proofs.Common.{◌∙◌, false, true, ℕ, sym, subst, ap, refl}
-use Rattle.std.specs.List.{range_with_len}
+use Rattle.std.proofs.Common.{◌∙◌, sym, subst, ap}
+use Rattle.nvm_model.specs.declared.run.RunPhase.TheVariants.{Running}
 use Rattle.nvm_model.specs.Run.{opposite}
 use Rattle.session.specs.declared.ending.Ending.{Ending}
-use Rattle.session.specs.Copies.{CopiesTo, both}
-use Rattle.session.specs.Place.{IsReady}
-use Rattle.session.specs.Sides.{IsMoved, IsRunning, SessionState, machine_of}
-use Rattle.session.proofs.StageLemmas.{if_ok, goes_more, on_destination, on_source, ready_copied}
+use Rattle.session.specs.Moves.{both}
+use Rattle.session.specs.Place.{IsReady, IsWaiting}
+use Rattle.session.specs.Sides.{IsMoved, SessionState, machine_of}
+use Rattle.session.proofs.StageLemmas.{goes_more, if_ok, on_destination, on_source, resumed, stayed}
 use Rattle.session.proofs.session.Session.move_to.Goals as goal
-
-pub resume-requires-clause-ready : goal.resume-requires-clause-ready
-resume-requires-clause-ready g c =
-    subst (λ (s : SessionState). IsReady s.script (machine_of s c.copy_blocks.new.self)) (sym c.in_ok-suspend.ensures.session) (ready_copied c.args.self.now c.requires.running.ready c.copy_blocks.ensures.copied.from)
-
-pub stay-requires-clause-ready : goal.stay-requires-clause-ready
-stay-requires-clause-ready g c =
-    subst (λ (s : SessionState). IsReady s.script (machine_of s c.copy_blocks.new.self)) (sym c.in_ok-suspend.ensures.session) (ready_copied c.args.self.now c.requires.running.ready c.copy_blocks.ensures.copied.from)
 
 pub returns-in-Ok-clause-went : goal.returns-in-Ok-clause-went
 returns-in-Ok-clause-went g c =
-    let script = ap (λ (s : SessionState). s.script.head.blocks) c.in_ok-suspend.ensures.session in
-    let blocks = c.requires.running.ready.place.namespace.blocks ∙ sym script in
-    let copies = subst (λ (n : ℕ). CopiesTo g.M.Medium.state g.M.Medium.moves (range_with_len 0 n) (both c.args.at.now c.args.to.now) false (both c.copy_blocks.new.self c.copy_blocks.new.to)) blocks c.in-Ok.ensures.copied in
-    let side = ap (λ (s : SessionState). s.side) c.resume.ensures.session ∙ ap opposite (ap (λ (s : SessionState). s.side) c.in_ok-suspend.ensures.session ∙ c.requires.source) in
-    on_destination side (goes_more (c.in_ok-suspend.ensures.went c.args.to.now) (c.resume.ensures.went c.args.at.now c.args.to.now copies))
+    let suspended = c.in_ok-suspend.ensures.session in
+    let ready = subst (λ (s : SessionState). IsReady s.script (machine_of s c.args.at.now)) (sym suspended) c.requires.running.ready in
+    let waits = subst (λ (s : SessionState). IsWaiting s.script c.args.to.now) (sym suspended) c.requires.waits in
+    let is = c.resume.ensures.session ∙ ap (λ (s : SessionState). record s { phase = Running; side = opposite s.side }) c.cut_over.ensures.session in
+    let to = resumed c.suspend.new.self ready c.resume.new.self (ap (λ (s : SessionState). s.phase) suspended) waits c.in-Ok.ensures.tried c.resume.ensures.written is in
+    on_destination (ap (λ (s : SessionState). s.side) is ∙ ap opposite (ap (λ (s : SessionState). s.side) suspended ∙ c.requires.source)) (goes_more (c.in_ok-suspend.ensures.went c.args.to.now) to.0)
+
+pub returns-in-Ok-clause-moved : goal.returns-in-Ok-clause-moved
+returns-in-Ok-clause-moved g c =
+    let suspended = c.in_ok-suspend.ensures.session in
+    let ready = subst (λ (s : SessionState). IsReady s.script (machine_of s c.args.at.now)) (sym suspended) c.requires.running.ready in
+    let waits = subst (λ (s : SessionState). IsWaiting s.script c.args.to.now) (sym suspended) c.requires.waits in
+    let is = c.resume.ensures.session ∙ ap (λ (s : SessionState). record s { phase = Running; side = opposite s.side }) c.cut_over.ensures.session in
+    let to = resumed c.suspend.new.self ready c.resume.new.self (ap (λ (s : SessionState). s.phase) suspended) waits c.in-Ok.ensures.tried c.resume.ensures.written is in
+    let side = ap (λ (s : SessionState). s.side) is ∙ ap opposite (ap (λ (s : SessionState). s.side) suspended ∙ c.requires.source) in
+    if_ok c.resume.result (λ ending done. subst (λ (e : Ending). IsMoved e (both c.args.at.now c.args.to.now) c.resume.new.self (both c.cut_over.new.at c.cut_over.new.to)) (sym done) (side, to.1, c.in-Ok.ensures.tried.0.controllers)) c.resume.ensures.done
 
 pub returns-in-Err-clause-went : goal.returns-in-Err-clause-went
 returns-in-Err-clause-went g c =
-    let script = ap (λ (s : SessionState). s.script.head.blocks) c.in_ok-suspend.ensures.session in
-    let blocks = c.requires.running.ready.place.namespace.blocks ∙ sym script in
-    let copies = subst (λ (n : ℕ). CopiesTo g.M.Medium.state g.M.Medium.moves (range_with_len 0 n) (both c.args.at.now c.args.to.now) true (both c.copy_blocks.new.self c.copy_blocks.new.to)) blocks c.in-Err.ensures.copied in
-    let side = ap (λ (s : SessionState). s.side) c.stay.ensures.session ∙ ap (λ (s : SessionState). s.side) c.in_ok-suspend.ensures.session ∙ c.requires.source in
-    on_source side (goes_more (c.in_ok-suspend.ensures.went c.args.to.now) (c.stay.ensures.went c.args.at.now c.args.to.now copies))
+    let suspended = c.in_ok-suspend.ensures.session in
+    let ready = subst (λ (s : SessionState). IsReady s.script (machine_of s c.args.at.now)) (sym suspended) c.requires.running.ready in
+    let is = c.stay.ensures.session ∙ ap (λ (s : SessionState). record s { phase = Running }) c.cut_over.ensures.session in
+    let to = stayed c.suspend.new.self ready c.stay.new.self (ap (λ (s : SessionState). s.phase) suspended) c.in-Err.ensures.tried c.stay.ensures.written is in
+    on_source (ap (λ (s : SessionState). s.side) is ∙ ap (λ (s : SessionState). s.side) suspended ∙ c.requires.source) (goes_more (c.in_ok-suspend.ensures.went c.args.to.now) to.0)
 
 pub returns-in-Err-clause-moved : goal.returns-in-Err-clause-moved
 returns-in-Err-clause-moved g c =
-    let side = ap (λ (s : SessionState). s.side) c.stay.ensures.session ∙ ap (λ (s : SessionState). s.side) c.in_ok-suspend.ensures.session ∙ c.requires.source in
-    let ready = subst (λ (s : SessionState). IsReady s.script (machine_of s c.copy_blocks.new.self)) (sym c.in_ok-suspend.ensures.session) (ready_copied c.args.self.now c.requires.running.ready c.copy_blocks.ensures.copied.from) in
-    let running = subst (λ (s : SessionState). IsRunning s c.copy_blocks.new.self) (sym c.stay.ensures.session) (record { phase = refl; ready = ready }) in
-    if_ok c.stay.result (λ ending is. subst (λ (e : Ending). IsMoved e c.stay.new.self c.copy_blocks.new.self c.copy_blocks.new.to) (sym is) (side, running)) c.stay.ensures.gave_up
+    let suspended = c.in_ok-suspend.ensures.session in
+    let ready = subst (λ (s : SessionState). IsReady s.script (machine_of s c.args.at.now)) (sym suspended) c.requires.running.ready in
+    let is = c.stay.ensures.session ∙ ap (λ (s : SessionState). record s { phase = Running }) c.cut_over.ensures.session in
+    let to = stayed c.suspend.new.self ready c.stay.new.self (ap (λ (s : SessionState). s.phase) suspended) c.in-Err.ensures.tried c.stay.ensures.written is in
+    let side = ap (λ (s : SessionState). s.side) is ∙ ap (λ (s : SessionState). s.side) suspended ∙ c.requires.source in
+    if_ok c.stay.result (λ ending done. subst (λ (e : Ending). IsMoved e (both c.args.at.now c.args.to.now) c.stay.new.self (both c.cut_over.new.at c.cut_over.new.to)) (sym done) (side, to.1, c.in-Err.ensures.tried.controllers)) c.stay.ensures.gave_up

@@ -1,7 +1,7 @@
 use Rattle.std.proofs.Common.{◌≡◌, ◌+◌, ◌*◌, ◌≤◌, map, take}
 use Rattle.std.specs.Prelude.{sum}
 use Rattle.nvm_model.specs.declared.script.LaneSet.{LaneSet}
-use Rattle.engine.proofs.reading.window_pages.Given as goal
+use Rattle.session.proofs.session.window_pages.Given as goal
 
 abbrev pub invariant-loop-set : goal.invariant-loop-set
 invariant-loop-set l = record {

@@ -1,0 +1,250 @@
+use Rattle.std.proofs.Common.{◌≡◌, ℕ, zero, suc, ◌+◌, ◌-◌, ◌*◌, ◌^◌, ◌/◌, ◌<◌, ◌≤◌, Bool, true, List, [], ◌∷◌, ◌++◌, Result, Ok, Err, drop, get_or, length, map, min, replicate, sum, take, refl, sym, ap, subst, ◌∙◌, arith}
+use Rattle.nvm_ring.specs.Places.{IsRing}
+use Rattle.std.specs.List.{All, range_with_len}
+use Rattle.std.proofs.Math.ListN.{get_or-map}
+use Rattle.std.proofs.Math.Nat.{mod-lt, mul-div_cancel}
+use Rattle.std.proofs.Math.Seq.{drop-append_seam, take-append_seam}
+use Rattle.std.proofs.lemmas.List.{length-append, length-map, length-replicate, length-take-le}
+use Rattle.std.proofs.lemmas.List.Elements.{All-from_get_or}
+use Rattle.std.proofs.lemmas.List.Sums.{sum_by-cons}
+use Rattle.nvm_model.specs.declared.script.Head.{Head}
+use Rattle.nvm_model.specs.declared.script.LaneSet.{LaneSet}
+use Rattle.nvm_model.specs.declared.script.Script.{Script}
+use Rattle.nvm_model.specs.declared.trace.Step.{Step}
+use Rattle.nvm_model.specs.Chain.{Chain}
+use Rattle.nvm_model.specs.Medium.{At, MediumState}
+use Rattle.nvm_model.specs.Ring.{CqState}
+use Rattle.nvm_model.specs.Run.{CopiesAll, CopiesUpTo, Copy, all_blocks, gets_of, left_calls, media_count, puts_of, taken_calls}
+use Rattle.nvm_model.specs.ScriptText.{IsHead}
+use Rattle.nvm_model.specs.World.{new_lane, window_pages}
+use Rattle.turns.proofs.ScriptLaws.{few_pages, set_fits}
+use Rattle.guest_ram.specs.Ram.{all_pages}
+use Rattle.nvm_blocks.specs.Namespace.{block_count}
+use Rattle.ctl_state.specs.declared.image.PairState.{PairState as PairImage}
+use Rattle.ctl_state.specs.Image.{IsPair, none}
+use Rattle.controller.specs.declared.controller.Phase.TheVariants as phase
+use Rattle.controller.specs.Admin.{image_of}
+use Rattle.controller.specs.Pair.{ControllerState, PairState, no_pair}
+use Rattle.manager.specs.declared.manager.MediumFault.{MediumFault}
+use Rattle.manager.specs.declared.manager.MovePhase.TheVariants.{Begun}
+use Rattle.manager.specs.declared.manager.MoveSet.{MoveSet}
+use Rattle.manager.specs.declared.manager.Pause.{Pause}
+use Rattle.manager.specs.declared.side.Side.{Side}
+use Rattle.manager.specs.declared.side.Side.TheVariants.{From}
+use Rattle.manager.specs.Asks.{Asked, cut_over_asks, resume_asks, stopped_asks}
+use Rattle.manager.specs.Move.{Covers, Fits, HasImage, HoldsSame, IsGivenUp, IsMoveSet, LeavesSource, ManagerState, MayCutOver, with_all}
+use Rattle.manager.specs.Owed.{places_from, places_of}
+use Rattle.manager.specs.Port.{PortCall, PortState, SideState, with_media_of}
+use Rattle.manager.proofs.AskLemmas.{asked_more}
+use Rattle.manager.proofs.CopyLemmas.{all_places}
+use Rattle.manager.proofs.MoveLemmas.{covers_all}
+use Rattle.session.specs.Moves.{Brings, Crosses, Moves, Stays, Tries, begun, both}
+use Rattle.session.specs.Place.{IsPlaceOf, IsReady, IsWaiting, Machine, PlaceState}
+use Rattle.session.specs.Port.{DestCall, Ends, dest_of_place, moves_place, moves_port, port_of, side_of_place}
+use Rattle.session.specs.Sides.{move_set}
+use Rattle.session.proofs.MemoryLemmas.{have_pages, one_shape, same_memory}
+use Rattle.session.proofs.RestLemmas.{all_quiet, some_run}
+use Rattle.session.proofs.PortLemmas.{names_kept}
+use Rattle.session.proofs.MoveCallLemmas.{AreMoveCalls, IsShelved, PlaceGoes, cut_calls, from_all, stopped_calls, to_all}
+
+-- What a manager says of its port, of both places.
+
+abbrev pub port_at : {M I : Type 0} → (M → MediumState I) → ℕ × ℕ → PlaceState M → PlaceState M → PortState (Ends M (PlaceState M))
+port_at state names at to = port_of state names at (dest_of_place state to)
+
+abbrev pub ends_move : {M I : Type 0} → (M → MediumState I) → (I → Step → Bool → I → Type 0) → Ends M (PlaceState M) → PortCall → Ends M (PlaceState M) → Type 0
+ends_move state moves = moves_port state moves (moves_place state moves)
+
+-- a place has the shelves of its script
+shelved : {M : Type 0} {s : Script} {p : PlaceState M} → IsHead s.head → IsPlaceOf s p → IsShelved s.head.shelf (media_count s) p
+shelved {s = s} {p} head is =
+    let whole : length p.namespace.shelves * s.head.shelf ≡ s.head.blocks = ap (λ (k : ℕ). length p.namespace.shelves * k) (sym is.namespace.shelf) ∙ is.namespace.blocks in
+    (is.namespace.shelf, sym (mul-div_cancel (length p.namespace.shelves) (omega (arith, head.shelf.0))) ∙ ap (λ (n : ℕ). n / s.head.shelf) whole)
+
+-- all is owed
+places_all : (k n : ℕ) → places_from k (replicate n true) ≡ range_with_len k n
+places_all k zero = refl
+places_all k (suc n) = ap (λ (ps : List ℕ). k ∷ ps) (places_all (k + 1) n)
+
+blocks_owed : (s : Script) (m : ManagerState) → m ≡ with_all true Begun (move_set s.head) → places_of m.blocks ≡ all_blocks s
+blocks_owed s m is = ap (λ (n : ManagerState). places_of n.blocks) is ∙ places_all 0 s.head.blocks
+
+-- both places went on by the calls of a move with these copies
+pub record Goes {M I : Type 0} (state : M → MediumState I) (moves : I → Step → Bool → I → Type 0) (s : Script) (copies : List Copy) (old new : Ends M (PlaceState M)) : Type 0 where
+  pub from : PlaceGoes state moves (left_calls s copies) old.from new.from
+  pub to : PlaceGoes state moves (taken_calls s copies) old.to new.to
+
+goes : {M I : Type 0} {state : M → MediumState I} {moves : I → Step → Bool → I → Type 0} {s : Script} (old new : Ends M (PlaceState M)) (calls : List PortCall) (copies : List Copy) → IsHead s.head → IsPlaceOf s old.from → IsPlaceOf s old.to →
+    Chain (ends_move state moves) old calls new → AreMoveCalls (media_count s) calls copies → Goes state moves s copies old new
+goes {state = state} {moves} {s} old new calls copies head at to c are = record {
+  from = subst (λ (xs : List At). PlaceGoes state moves xs old.from new.from) (are.all (gets_of s.head.shelf)) (from_all state moves s.head.shelf (media_count s) calls old new c (shelved head at));
+  to = subst (λ (xs : List At). PlaceGoes state moves xs old.to new.to) (are.all (puts_of s.head.shelf)) (to_all state moves s.head.shelf (media_count s) calls old new c (shelved head to));
+}
+
+crosses : {M I : Type 0} {state : M → MediumState I} {moves : I → Step → Bool → I → Type 0} {s : Script} {copies : List Copy} (old new : Ends M (PlaceState M)) → Goes state moves s copies old new → all_pages new.from.windows ≡ all_pages old.from.windows →
+    Crosses state moves s copies (both old.from old.to) (both new.from new.to)
+crosses old new g pages = record {
+  gets = g.from.called;
+  puts = g.to.called;
+  from_shelves = g.from.shelves;
+  to_shelves = g.to.shelves;
+  from_memory = same_memory new.from.windows old.from.windows g.from.shape_is pages;
+}
+
+-- the guests were moved
+pub moved : {M I : Type 0} {state : M → MediumState I} {moves : I → Step → Bool → I → Type 0} {s : Script} {at to new_at new_to : PlaceState M} {names new_names : ℕ × ℕ} (size : ℕ) (m : ManagerState) → IsHead s.head → IsPlaceOf s at → IsPlaceOf s to →
+    m ≡ with_all true Begun (move_set s.head) → Covers m →
+    Asked (ends_move state moves) (cut_over_asks 0 (places_of m.blocks) (places_of m.pages) size) (port_at state names at to) (port_at state new_names new_at new_to) →
+    LeavesSource (side_of_place state at) (side_of_place state new_at) → HoldsSame m (port_at state names at to) (port_at state new_names new_at new_to) → Moves state moves s (both at to) (both new_at new_to)
+moved {M} {state = state} {s = s} {at} {to} {new_at} {new_to} {names} {new_names} size m head is waits made covers asked leaves holds =
+    let old : Ends M (PlaceState M) = record { names = names; from = at; to = to } in
+    let new : Ends M (PlaceState M) = record { names = new_names; from = new_at; to = new_to } in
+    let calls = cut_calls (media_count s) (places_of m.blocks) (places_of m.pages) size asked.calls asked.asks_are in
+    let g = goes {s = s} old new asked.calls calls.0 head is waits asked.inside calls.2 in
+    let left : all_pages new_at.windows ≡ all_pages at.windows = ap (λ (x : SideState). x.pages) leaves.is in
+    let count : m.set.ram_pages ≡ window_pages s.head = ap (λ (n : ManagerState). n.set.ram_pages) made in
+    let pages = holds.pages (covers.pages (all_pages at.windows) (all_pages to.windows) (have_pages head is.windows ∙ sym count) (have_pages head waits.windows ∙ sym count)) in
+    record {
+      copies = calls.0;
+      all = subst (λ (bs : List ℕ). CopiesAll bs calls.0) (blocks_owed s m made) calls.1;
+      crosses = crosses old new g left;
+      to_memory = same_memory new_to.windows at.windows (g.to.shape_is ∙ one_shape waits.windows is.windows) (pages ∙ left);
+      controllers = (ap (λ (x : SideState). x.controller) leaves.is, holds.running);
+    }
+
+-- the guests stayed
+pub stayed : {M I : Type 0} {state : M → MediumState I} {moves : I → Step → Bool → I → Type 0} {s : Script} {at to new_at new_to : PlaceState M} {names new_names : ℕ × ℕ} (front : List ℕ) (last : ℕ) (others : List ℕ) (side : Side) (mid : PortState (Ends M (PlaceState M))) (m : ManagerState) →
+    IsHead s.head → IsPlaceOf s at → IsPlaceOf s to → m ≡ with_all true Begun (move_set s.head) → places_of m.blocks ≡ front ++ last ∷ others →
+    Asked (ends_move state moves) (stopped_asks 0 front last side) (port_at state names at to) mid → Asked (ends_move state moves) (resume_asks From 0) mid (port_at state new_names new_at new_to) →
+    LeavesSource (side_of_place state at) mid.from → mid.to ≡ with_media_of mid.to (side_of_place state to) → IsGivenUp mid (port_at state new_names new_at new_to) → Stays state moves s (both at to) (both new_at new_to)
+stayed {M} {state = state} {s = s} {at} {to} {new_at} {new_to} {names} {new_names} front last others side mid m head is waits made owed first second leaves to_is given =
+    let old : Ends M (PlaceState M) = record { names = names; from = at; to = to } in
+    let new : Ends M (PlaceState M) = record { names = new_names; from = new_at; to = new_to } in
+    let asked = asked_more first second in
+    let calls = stopped_calls (media_count s) front last others side asked.calls asked.asks_are in
+    let g = goes {s = s} old new asked.calls calls.0 head is waits asked.inside calls.2 in
+    let left : all_pages new_at.windows ≡ all_pages at.windows = ap (λ (x : SideState). x.pages) given.from ∙ ap (λ (x : SideState). x.pages) leaves.is in
+    record {
+      copies = calls.0;
+      up_to = subst (λ (bs : List ℕ). CopiesUpTo bs calls.0) (sym owed ∙ blocks_owed s m made) calls.1;
+      crosses = crosses old new g left;
+      to_memory = same_memory new_to.windows to.windows g.to.shape_is (ap (λ (x : SideState). x.pages) given.to ∙ ap (λ (x : SideState). x.pages) to_is);
+      controllers = (
+        ap (λ (x : SideState). x.controller) given.from ∙ ap (λ (x : SideState). record x.controller { phase = phase.Running }) leaves.is,
+        ap (λ (x : SideState). x.controller) given.to ∙ ap (λ (x : SideState). x.controller) to_is,
+      );
+    }
+
+-- either
+pub brought : {M I : Type 0} (state : M → MediumState I) (moves : I → Step → Bool → I → Type 0) {s : Script} {at to : PlaceState M} (names : ℕ × ℕ) (new_at new_to : PlaceState M) (set : MoveSet) (result : Result Pause MediumFault) → IsHead s.head → IsPlaceOf s at → IsPlaceOf s to →
+    set ≡ move_set s.head → Brings (ends_move state moves) (begun set) result (port_at state names at to) (port_at state names new_at new_to) → Tries state moves s result (both at to) (both new_at new_to)
+brought state moves names new_at new_to set (Ok pause) head is waits same b = (
+  moved _ (begun set) head is waits (ap begun same) (covers_all (begun set) refl refl) b.0 b.1.0 b.1.1,
+  b.2 ∙ ap (λ (n : ℕ). record { blocks = n; pages = length (places_of (begun set).pages) }) (all_places 0 set.blocks) ∙ ap (λ (n : ℕ). record { blocks = set.blocks; pages = n }) (all_places 0 set.ram_pages)
+      ∙ ap (λ (x : MoveSet). record { blocks = x.blocks; pages = x.ram_pages }) same,
+)
+brought state moves names new_at new_to set (Err fault) head is waits same b = stayed b.1.0 b.1.1 b.1.2 fault.side b.0 (begun set) head is waits (ap begun same) b.1.3 b.1.4 b.3 b.2.0 b.2.1 b.4
+
+-- the port holds the borrows that it held
+pub same_names : {M I J : Type 0} (state : M → MediumState I) (moves : I → Step → Bool → I → Type 0) (dest : J → DestCall → J → Type 0) (m : ManagerState) (result : Result Pause MediumFault) (old new : PortState (Ends M J)) → Brings (moves_port state moves dest) m result old new → new.inside.names ≡ old.inside.names
+same_names state moves dest m (Ok pause) old new b = names_kept state moves dest old.inside new.inside b.0.calls b.0.inside
+same_names state moves dest m (Err fault) old new b = names_kept state moves dest b.0.inside new.inside b.3.calls b.3.inside ∙ names_kept state moves dest old.inside b.0.inside b.1.4.calls b.1.4.inside
+
+-- What a manager needs of its port.
+
+min_self : (n : ℕ) → min n n ≡ n
+min_self n = omega arith
+
+some_sets : (sets : List LaneSet) → 1 ≤ length sets → 1 ≤ sum (map (λ (set : LaneSet). set.pages + 2) sets)
+some_sets [] some = absurd (omega (arith, some))
+some_sets (set ∷ sets) some =
+    omega (arith, sum_by-cons (λ (n : ℕ). n) (set.pages + 2) (map (λ (set : LaneSet). set.pages + 2) sets))
+
+some_pages : (h : Head) → IsHead h → 1 ≤ window_pages h
+some_pages h is =
+    let enough : h.lanes ≤ length h.sets = omega (arith, is.sets.0, is.lanes.1) in
+    let count = length-take-le h.lanes h.sets enough in
+    some_sets (take h.lanes h.sets) (omega (arith, count, is.lanes.0))
+
+-- a script's move is one that a manager can do
+pub move_fits : (h : Head) → IsHead h → IsMoveSet (move_set h)
+move_fits h is = record {
+  blocks = is.blocks;
+  ram_pages = (some_pages h is, few_pages h is);
+  slice = is.slice;
+  small = is.small;
+  pages = is.pages;
+  patience = is.patience;
+  cells = is.change;
+}
+
+-- of two places that are to move
+module _ {M I : Type 0} (state : M → MediumState I) {s : Script} {m : Machine M} {to : PlaceState M} (names : ℕ × ℕ) (ready : IsReady s m) (waits : IsWaiting s to) where
+  abbrev c : ControllerState
+  c = m.place.controller
+
+  pub fits : (n : ManagerState) → n.set ≡ move_set s.head → Fits n (port_at state names m.place to)
+  fits n is =
+      let from = ready.place.namespace.blocks in
+      let here = waits.at.namespace.blocks in
+      let pages = ap (λ (x : MoveSet). x.ram_pages) (sym is) in
+      record {
+        blocks = ap (λ (k : ℕ). min k (block_count to.namespace)) (from ∙ sym here) ∙ min_self (block_count to.namespace) ∙ here ∙ ap (λ (x : MoveSet). x.blocks) (sym is);
+        from_pages = have_pages ready.script.head ready.place.windows ∙ pages;
+        to_pages = have_pages ready.script.head waits.at.windows ∙ pages;
+        calls = omega arith;
+        from_quiet = all_quiet ready.quiet ready.place.pairs;
+        to_quiet = waits.quiet;
+      }
+
+  -- the source's rings are those of an image
+  pair_fits : (i : ℕ) → i < length c.pairs → IsPair (image_of (get_or c.pairs i no_pair))
+  pair_fits i there =
+      let low : 1 ≤ i + 1 = omega arith in
+      let high : i + 1 ≤ s.head.lanes = omega (arith, there, ready.place.pairs) in
+      let place : i + 1 - 1 ≡ i = omega arith in
+      let set = set_fits s.head (i + 1) ready.script.head low high in
+      let run = some_run ready.script ready.runs in
+      let ends = (ready.stands.lanes.each (i + 1) run (new_lane 0) low high).ends in
+      subst (λ (j : ℕ). IsPair (image_of (get_or c.pairs j no_pair))) place (record {
+        sq = subst (IsRing 64) (sym ends.sq_is) (record { at_least = set.0; at_most = set.1; head = mod-lt _ (omega (arith, set.0)); tail = mod-lt _ (omega (arith, set.0)) });
+        cq = subst (IsRing 256) (sym (ap (λ (q : CqState). q.ring) ends.cq_is)) (record { at_least = set.2; at_most = set.3; head = mod-lt _ (omega (arith, set.2)); tail = mod-lt _ (omega (arith, set.2)) });
+      })
+
+  has_image : HasImage c
+  has_image =
+      let n = length c.pairs in
+      let images = map image_of c.pairs in
+      let others : List PairImage = replicate (8 - n) none in
+      let long : length images ≡ n = length-map c.pairs image_of in
+      let few : n ≤ 8 = omega (arith, ready.place.pairs, ready.script.head.lanes.1) in
+      let all = length-append images others in
+      let rest = length-replicate (8 - n) none in
+      let taken : take n (images ++ others) ≡ images = ap (λ (k : ℕ). take k (images ++ others)) (sym long) ∙ take-append_seam images others in
+      record {
+        image = record { pairs = images ++ others; used = n };
+        is = record {
+          used = refl;
+          few = few;
+          room = omega (arith, all, long, rest, few);
+          pairs = subst (All IsPair) (sym taken) (All-from_get_or IsPair images (image_of no_pair) (λ i there. subst IsPair (sym (get_or-map image_of c.pairs i no_pair)) (pair_fits i (omega (arith, there, long)))));
+          others = ap (λ (k : ℕ). drop k (images ++ others)) (sym long) ∙ drop-append_seam images others;
+        };
+        rings = taken;
+      }
+
+  pub may_cut_over : MayCutOver (port_at state names m.place to)
+  may_cut_over =
+      let lanes = waits.at.pairs ∙ sym ready.place.pairs in
+      record { running = ready.running; waiting = waits.waiting; image = has_image; lanes = lanes; fed = waits.fed ∙ lanes }
+
+-- a cutover that stopped leaves a port for one that gives up
+pub fits_still : {J : Type 0} {n k : ManagerState} {old mid : PortState J} → Fits n old → k.set ≡ n.set → mid.count ≡ old.count → LeavesSource old.from mid.from → mid.to ≡ with_media_of mid.to old.to → 2 ^ 18 ≤ mid.left → Fits k mid
+fits_still {n = n} {k} {old} {mid} is set count leaves to left = record {
+  blocks = count ∙ is.blocks ∙ ap (λ (x : MoveSet). x.blocks) (sym set);
+  from_pages = ap (λ (x : SideState). length x.pages) leaves.is ∙ is.from_pages ∙ ap (λ (x : MoveSet). x.ram_pages) (sym set);
+  to_pages = ap (λ (x : SideState). length x.pages) to ∙ is.to_pages ∙ ap (λ (x : MoveSet). x.ram_pages) (sym set);
+  calls = left;
+  from_quiet = subst (λ (ps : List PairState). All (λ (p : PairState). p.commands ≡ []) ps) (sym (ap (λ (x : SideState). x.controller.pairs) leaves.is)) is.from_quiet;
+  to_quiet = subst (λ (ps : List PairState). All (λ (p : PairState). p.commands ≡ []) ps) (sym (ap (λ (x : SideState). x.controller.pairs) to)) is.to_quiet;
+}
