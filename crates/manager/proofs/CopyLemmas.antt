@@ -2,6 +2,7 @@ use Rattle.std.proofs.Common.{◌≡◌, inl, inr, ⊎_elim, ℕ, zero, suc, ◌
 use Rattle.std.proofs.lemmas.Bool.{cases_eq, cases_lt}
 use Rattle.std.proofs.lemmas.Grind.{get_or-set_at}
 use Rattle.std.proofs.lemmas.List.{get_or_default, get_or_past, get_or-set_other, length-map, length-set, length-take, length-take-le, map-append, same_lists, take-append-drop, take_more}
+use Rattle.std.specs.List.{range_with_len}
 use Rattle.std.specs.Result.{IsErrAnd}
 use Rattle.std.proofs.lemmas.Result.{err_from_is_err_and}
 use Rattle.mig_base.specs.Count.{RisesBy}
@@ -246,6 +247,10 @@ length-places k (true ∷ owed) = let more = length-places (k + 1) owed in omega
 length-places k (false ∷ owed) = let more = length-places (k + 1) owed in omega (arith, more)
 
 -- All are owed, or none.
+
+pub places_all : (k n : ℕ) → places_from k (replicate n true) ≡ range_with_len k n
+places_all k zero = refl
+places_all k (suc n) = ap (λ (ps : List ℕ). k ∷ ps) (places_all (k + 1) n)
 
 pub all_places : (k n : ℕ) → length (places_from k (replicate n true)) ≡ n
 all_places k zero = refl

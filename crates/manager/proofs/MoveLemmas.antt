@@ -1,12 +1,12 @@
-use Rattle.std.proofs.Common.{◌≡◌, ℕ, ◌+◌, ◌*◌, ◌/◌, ◌%◌, ◌≤◌, Bool, List, [], ◌∷◌, ◌++◌, Option, Result, Err, append-nil, length, map, replicate, true, refl, sym, ap, ◌∙◌, subst, arith}
+use Rattle.std.proofs.Common.{◌≡◌, ℕ, ◌+◌, ◌*◌, ◌/◌, ◌%◌, ◌≤◌, Bool, List, [], ◌∷◌, ◌++◌, Option, Result, Err, append-nil, length, map, replicate, true, refl, sym, ap, ◌∙◌, subst, arith, ◌-◌, ◌^◌, ◌<◌, take, drop, get_or}
 use Rattle.std.specs.Result.{IsErrAnd}
-use Rattle.std.proofs.lemmas.List.{length-append, length-map}
+use Rattle.std.proofs.lemmas.List.{length-append, length-map, length-replicate}
 use Rattle.std.proofs.lemmas.Result.{err_from_is_err_and}
 use Rattle.nvm_model.specs.Medium.{StayTold}
 use Rattle.ctl_state.specs.declared.image.PairState.{PairState as PairImage}
 use Rattle.ctl_state.specs.Parts.{PartsState, image_size}
 use Rattle.controller.specs.Admin.{image_of, state_bytes}
-use Rattle.controller.specs.Pair.{ControllerState}
+use Rattle.controller.specs.Pair.{ControllerState, PairState, no_pair}
 use Rattle.manager.specs.declared.manager.MediumFault.{MediumFault}
 use Rattle.manager.specs.declared.manager.MovePhase.{MovePhase}
 use Rattle.manager.specs.declared.manager.MovePhase.TheVariants.{New, Begun, Stopped, Moved, GivenUp}
@@ -24,6 +24,12 @@ use Rattle.manager.proofs.AskLemmas.{asked_more}
 use Rattle.manager.proofs.CopyLemmas.{all_differ, length-places, none_differs, none_told_differs}
 use Rattle.manager.proofs.StateLemmas.{resumed}
 use Rattle.manager.proofs.StepLemmas.{length-whole_parts}
+use Rattle.std.specs.List.{All}
+use Rattle.std.proofs.Math.ListN.{get_or-map}
+use Rattle.std.proofs.Math.Seq.{drop-append_seam, take-append_seam}
+use Rattle.std.proofs.lemmas.List.Elements.{All-from_get_or}
+use Rattle.ctl_state.specs.Image.{IsPair, none}
+use Rattle.manager.specs.declared.manager.MoveSet.{MoveSet}
 
 -- A whole cutover, part after part.
 
@@ -157,3 +163,36 @@ covers_all m blocks pages = record {
   blocks = λ from to from_long to_long. subst (λ (owed : List Bool). DifferIn m.set.blocks (places_of owed) from to) (sym blocks) (all_differ m.set.blocks from to from_long to_long);
   pages = λ from to from_long to_long. subst (λ (owed : List Bool). DifferIn m.set.ram_pages (places_of owed) from to) (sym pages) (all_differ m.set.ram_pages from to from_long to_long);
 }
+
+-- a cutover that stopped leaves a port for one that gives up
+pub fits_still : {J : Type 0} {n k : ManagerState} {old mid : PortState J} → Fits n old → k.set ≡ n.set → mid.count ≡ old.count → LeavesSource old.from mid.from → mid.to ≡ with_media_of mid.to old.to → 2 ^ 18 ≤ mid.left → Fits k mid
+fits_still {n = n} {k} {old} {mid} is set count leaves to left = record {
+  blocks = count ∙ is.blocks ∙ ap (λ (x : MoveSet). x.blocks) (sym set);
+  from_pages = ap (λ (x : SideState). length x.pages) leaves.is ∙ is.from_pages ∙ ap (λ (x : MoveSet). x.ram_pages) (sym set);
+  to_pages = ap (λ (x : SideState). length x.pages) to ∙ is.to_pages ∙ ap (λ (x : MoveSet). x.ram_pages) (sym set);
+  calls = left;
+  from_quiet = subst (λ (ps : List PairState). All (λ (p : PairState). p.commands ≡ []) ps) (sym (ap (λ (x : SideState). x.controller.pairs) leaves.is)) is.from_quiet;
+  to_quiet = subst (λ (ps : List PairState). All (λ (p : PairState). p.commands ≡ []) ps) (sym (ap (λ (x : SideState). x.controller.pairs) to)) is.to_quiet;
+}
+
+-- a controller whose rings are those of an image has one
+pub has_image : (c : ControllerState) → length c.pairs ≤ 8 → ((i : ℕ) → i < length c.pairs → IsPair (image_of (get_or c.pairs i no_pair))) → HasImage c
+has_image c few fits =
+    let n = length c.pairs in
+    let images = map image_of c.pairs in
+    let others : List PairImage = replicate (8 - n) none in
+    let long : length images ≡ n = length-map c.pairs image_of in
+    let all = length-append images others in
+    let rest = length-replicate (8 - n) none in
+    let taken : take n (images ++ others) ≡ images = ap (λ (k : ℕ). take k (images ++ others)) (sym long) ∙ take-append_seam images others in
+    record {
+      image = record { pairs = images ++ others; used = n };
+      is = record {
+        used = refl;
+        few = few;
+        room = omega (arith, all, long, rest, few);
+        pairs = subst (All IsPair) (sym taken) (All-from_get_or IsPair images (image_of no_pair) (λ i there. subst IsPair (sym (get_or-map image_of c.pairs i no_pair)) (fits i (omega (arith, there, long)))));
+        others = ap (λ (k : ℕ). drop k (images ++ others)) (sym long) ∙ drop-append_seam images others;
+      };
+      rings = taken;
+    }

@@ -17,7 +17,7 @@ use Rattle.nvm_model.specs.Ring.{CqState}
 use Rattle.nvm_model.specs.Run.{CopiesAll, CopiesUpTo, Copy, all_blocks, gets_of, left_calls, media_count, puts_of, taken_calls}
 use Rattle.nvm_model.specs.ScriptText.{IsHead}
 use Rattle.nvm_model.specs.World.{new_lane, window_pages}
-use Rattle.turns.proofs.ScriptLaws.{few_pages, set_fits}
+use Rattle.turns.proofs.ScriptLaws.{few_pages, set_fits, some_pages}
 use Rattle.guest_ram.specs.Ram.{all_pages}
 use Rattle.nvm_blocks.specs.Namespace.{block_count}
 use Rattle.ctl_state.specs.declared.image.PairState.{PairState as PairImage}
@@ -36,8 +36,9 @@ use Rattle.manager.specs.Move.{Covers, Fits, HasImage, HoldsSame, IsGivenUp, IsM
 use Rattle.manager.specs.Owed.{places_from, places_of}
 use Rattle.manager.specs.Port.{PortCall, PortState, SideState, with_media_of}
 use Rattle.manager.proofs.AskLemmas.{asked_more}
-use Rattle.manager.proofs.CopyLemmas.{all_places}
-use Rattle.manager.proofs.MoveLemmas.{covers_all}
+use Rattle.manager.proofs.CallLaws.{AreMoveCalls, cut_calls, stopped_calls}
+use Rattle.manager.proofs.CopyLemmas.{all_places, places_all}
+use Rattle.manager.proofs.MoveLemmas.{covers_all, has_image}
 use Rattle.session.specs.Moves.{Brings, Crosses, Moves, Stays, Tries, begun, both}
 use Rattle.session.specs.Place.{IsPlaceOf, IsReady, IsWaiting, Machine, PlaceState}
 use Rattle.session.specs.Port.{DestCall, Ends, dest_of_place, moves_place, moves_port, port_of, side_of_place}
@@ -45,7 +46,7 @@ use Rattle.session.specs.Sides.{move_set}
 use Rattle.session.proofs.MemoryLemmas.{have_pages, one_shape, same_memory}
 use Rattle.session.proofs.RestLemmas.{all_quiet, some_run}
 use Rattle.session.proofs.PortLemmas.{names_kept}
-use Rattle.session.proofs.MoveCallLemmas.{AreMoveCalls, IsShelved, PlaceGoes, cut_calls, from_all, stopped_calls, to_all}
+use Rattle.session.proofs.MoveCallLemmas.{IsShelved, PlaceGoes, from_all, to_all}
 
 -- What a manager says of its port, of both places.
 
@@ -62,10 +63,6 @@ shelved {s = s} {p} head is =
     (is.namespace.shelf, sym (mul-div_cancel (length p.namespace.shelves) (omega (arith, head.shelf.0))) ∙ ap (λ (n : ℕ). n / s.head.shelf) whole)
 
 -- all is owed
-places_all : (k n : ℕ) → places_from k (replicate n true) ≡ range_with_len k n
-places_all k zero = refl
-places_all k (suc n) = ap (λ (ps : List ℕ). k ∷ ps) (places_all (k + 1) n)
-
 blocks_owed : (s : Script) (m : ManagerState) → m ≡ with_all true Begun (move_set s.head) → places_of m.blocks ≡ all_blocks s
 blocks_owed s m is = ap (λ (n : ManagerState). places_of n.blocks) is ∙ places_all 0 s.head.blocks
 
@@ -155,17 +152,6 @@ same_names state moves dest m (Err fault) old new b = names_kept state moves des
 min_self : (n : ℕ) → min n n ≡ n
 min_self n = omega arith
 
-some_sets : (sets : List LaneSet) → 1 ≤ length sets → 1 ≤ sum (map (λ (set : LaneSet). set.pages + 2) sets)
-some_sets [] some = absurd (omega (arith, some))
-some_sets (set ∷ sets) some =
-    omega (arith, sum_by-cons (λ (n : ℕ). n) (set.pages + 2) (map (λ (set : LaneSet). set.pages + 2) sets))
-
-some_pages : (h : Head) → IsHead h → 1 ≤ window_pages h
-some_pages h is =
-    let enough : h.lanes ≤ length h.sets = omega (arith, is.sets.0, is.lanes.1) in
-    let count = length-take-le h.lanes h.sets enough in
-    some_sets (take h.lanes h.sets) (omega (arith, count, is.lanes.0))
-
 -- a script's move is one that a manager can do
 pub move_fits : (h : Head) → IsHead h → IsMoveSet (move_set h)
 move_fits h is = record {
@@ -211,40 +197,7 @@ module _ {M I : Type 0} (state : M → MediumState I) {s : Script} {m : Machine 
         cq = subst (IsRing 256) (sym (ap (λ (q : CqState). q.ring) ends.cq_is)) (record { at_least = set.2; at_most = set.3; head = mod-lt _ (omega (arith, set.2)); tail = mod-lt _ (omega (arith, set.2)) });
       })
 
-  has_image : HasImage c
-  has_image =
-      let n = length c.pairs in
-      let images = map image_of c.pairs in
-      let others : List PairImage = replicate (8 - n) none in
-      let long : length images ≡ n = length-map c.pairs image_of in
-      let few : n ≤ 8 = omega (arith, ready.place.pairs, ready.script.head.lanes.1) in
-      let all = length-append images others in
-      let rest = length-replicate (8 - n) none in
-      let taken : take n (images ++ others) ≡ images = ap (λ (k : ℕ). take k (images ++ others)) (sym long) ∙ take-append_seam images others in
-      record {
-        image = record { pairs = images ++ others; used = n };
-        is = record {
-          used = refl;
-          few = few;
-          room = omega (arith, all, long, rest, few);
-          pairs = subst (All IsPair) (sym taken) (All-from_get_or IsPair images (image_of no_pair) (λ i there. subst IsPair (sym (get_or-map image_of c.pairs i no_pair)) (pair_fits i (omega (arith, there, long)))));
-          others = ap (λ (k : ℕ). drop k (images ++ others)) (sym long) ∙ drop-append_seam images others;
-        };
-        rings = taken;
-      }
-
   pub may_cut_over : MayCutOver (port_at state names m.place to)
   may_cut_over =
       let lanes = waits.at.pairs ∙ sym ready.place.pairs in
-      record { running = ready.running; waiting = waits.waiting; image = has_image; lanes = lanes; fed = waits.fed ∙ lanes }
-
--- a cutover that stopped leaves a port for one that gives up
-pub fits_still : {J : Type 0} {n k : ManagerState} {old mid : PortState J} → Fits n old → k.set ≡ n.set → mid.count ≡ old.count → LeavesSource old.from mid.from → mid.to ≡ with_media_of mid.to old.to → 2 ^ 18 ≤ mid.left → Fits k mid
-fits_still {n = n} {k} {old} {mid} is set count leaves to left = record {
-  blocks = count ∙ is.blocks ∙ ap (λ (x : MoveSet). x.blocks) (sym set);
-  from_pages = ap (λ (x : SideState). length x.pages) leaves.is ∙ is.from_pages ∙ ap (λ (x : MoveSet). x.ram_pages) (sym set);
-  to_pages = ap (λ (x : SideState). length x.pages) to ∙ is.to_pages ∙ ap (λ (x : MoveSet). x.ram_pages) (sym set);
-  calls = left;
-  from_quiet = subst (λ (ps : List PairState). All (λ (p : PairState). p.commands ≡ []) ps) (sym (ap (λ (x : SideState). x.controller.pairs) leaves.is)) is.from_quiet;
-  to_quiet = subst (λ (ps : List PairState). All (λ (p : PairState). p.commands ≡ []) ps) (sym (ap (λ (x : SideState). x.controller.pairs) to)) is.to_quiet;
-}
+      record { running = ready.running; waiting = waits.waiting; image = has_image c (omega (arith, ready.place.pairs, ready.script.head.lanes.1)) pair_fits; lanes = lanes; fed = waits.fed ∙ lanes }

@@ -102,3 +102,15 @@ turns_rest s n w [] v are rest served = (subst (λ (u : World). AreAtRest s 1 u.
 turns_rest s n w (turn ∷ turns) v are rest served =
     let one = frame_rest rest served (turn_frame are.1.turn) in
     turns_rest s (n + pieces_in turn) are.0 turns v are.2 one.0 one.1
+
+-- there is a window page
+some_sets : (sets : List LaneSet) → 1 ≤ length sets → 1 ≤ sum (map (λ (set : LaneSet). set.pages + 2) sets)
+some_sets [] some = absurd (omega (arith, some))
+some_sets (set ∷ sets) some =
+    omega (arith, sum_by-cons (λ (n : ℕ). n) (set.pages + 2) (map (λ (set : LaneSet). set.pages + 2) sets))
+
+pub some_pages : (h : Head) → IsHead h → 1 ≤ window_pages h
+some_pages h is =
+    let enough : h.lanes ≤ length h.sets = omega (arith, is.sets.0, is.lanes.1) in
+    let count = length-take-le h.lanes h.sets enough in
+    some_sets (take h.lanes h.sets) (omega (arith, count, is.lanes.0))

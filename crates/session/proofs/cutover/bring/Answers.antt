@@ -2,7 +2,7 @@ use Rattle.std.proofs.Common.{◌∙◌, Err, ap, subst, arith}
 use Rattle.manager.specs.declared.manager.MovePhase.{MovePhase}
 use Rattle.manager.specs.Asks.{Asked}
 use Rattle.manager.specs.Move.{IsCutOver, ManagerState, give_up_asks}
-use Rattle.session.proofs.MoveLemmas.{fits_still}
+use Rattle.manager.proofs.MoveLemmas.{fits_still}
 use Rattle.session.proofs.cutover.bring.Goals as goal
 
 pub give_up-requires-clause-fits : goal.give_up-requires-clause-fits
