@@ -26,7 +26,7 @@ rising shelf i base a (suc n) own at =
     let here = at a (omega arith) (omega arith) in
     let elsewhere = λ (other : base + a ≡ i → ⊥). lies_elsewhere shelf i (own a) (λ is. other (omega (arith, is, here))) in (
       ⊎_elim (λ (is : base + a ≡ i). omega (arith, parts, lies_once shelf i (own a), others.1 (omega (arith, is))))
-      (λ (other : base + a ≡ i → ⊥). omega (arith, parts, elsewhere other, others.0)) (cases_eq (base + a) i),
+          (λ (other : base + a ≡ i → ⊥). omega (arith, parts, elsewhere other, others.0)) (cases_eq (base + a) i),
       λ behind. omega (arith, parts, elsewhere (λ is. omega (arith, is, behind)), others.1 (omega (arith, behind))),
     )
 

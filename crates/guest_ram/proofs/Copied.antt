@@ -74,16 +74,7 @@ shape-put ws page i j v w bytes h =
     let put : w.pages ≡ set (get_or ws i no_window).pages j bytes = cc in
     ap shape (lent_back ws i w) ∙ shape-set ws i j w bytes h.place.there lane put
 
--- Page after page.
-
--- one element more was copied
-pub one_copied : {X : Type 0} (n : ℕ) (from to : List X) (d : X) → n < length from → n < length to → take n to ≡ take n from → take (n + 1) (set to n (get_or from n d)) ≡ take (n + 1) from
-one_copied {X} n from to d inside room before =
-    take_more_set to n (get_or from n d) room ∙ ap (λ (front : List X). front ++ get_or from n d ∷ []) before ∙ sym (take_more from n d inside)
-
--- all were copied
-pub all_copied : {X : Type 0} (n : ℕ) (from to : List X) → length from ≡ n → length to ≡ n → take n to ≡ take n from → to ≡ from
-all_copied n from to from_size to_size same = sym (take_all n to (omega arith)) ∙ same ∙ take_all n from (omega arith)
+-- Whole memories.
 
 -- two lists with a first element are the same
 heads : {X : Type 0} {x y : X} {xs ys : List X} → x ∷ xs ≡ y ∷ ys → x ≡ y
@@ -91,15 +82,6 @@ heads e = cc
 
 tails : {X : Type 0} {x y : X} {xs ys : List X} → x ∷ xs ≡ y ∷ ys → xs ≡ ys
 tails e = cc
-
--- memories of one shape have as many pages
-pub as_many_pages : (a b : List WindowState) → shape a ≡ shape b → length (all_pages a) ≡ length (all_pages b)
-as_many_pages [] [] same = refl
-as_many_pages [] (w ∷ b) same = cc
-as_many_pages (v ∷ a) [] same = cc
-as_many_pages (v ∷ a) (w ∷ b) same =
-    length-append v.pages (all_pages a) ∙ ap (λ (n : ℕ). n + length (all_pages a)) (ap (λ (s : ℕ × ℕ). s.1) (heads same))
-    ∙ ap (λ (n : ℕ). length w.pages + n) (as_many_pages a b (tails same)) ∙ sym (length-append w.pages (all_pages b))
 
 -- memories of one shape with the same pages are the same
 pub same_memory : (a b : List WindowState) → shape a ≡ shape b → all_pages a ≡ all_pages b → a ≡ b
@@ -114,9 +96,3 @@ same_memory (v ∷ a) (w ∷ b) same pages =
     ∙ ap (λ (n : ℕ). drop n (w.pages ++ all_pages b)) long ∙ drop-append_seam w.pages (all_pages b) in
     let window : v ≡ w = ap (λ (k : ℕ). record { lane = k; pages = v.pages }) (ap (λ (s : ℕ × ℕ). s.0) (heads same)) ∙ ap (λ (ps : List (List ℕ)). record { lane = w.lane; pages = ps }) first in
     ap (λ (x : WindowState). x ∷ a) window ∙ ap (λ (ws : List WindowState). w ∷ ws) (same_memory a b (tails same) others)
-
--- all pages were copied
-pub all_pages_copied : (n : ℕ) (from to : List WindowState) → shape to ≡ shape from → n ≡ length (all_pages from) → take n (all_pages to) ≡ take n (all_pages from) → to ≡ from
-all_pages_copied n from to same all copied =
-    let many = as_many_pages to from same in
-    same_memory to from same (all_copied n (all_pages from) (all_pages to) (sym all) (many ∙ sym all) copied)

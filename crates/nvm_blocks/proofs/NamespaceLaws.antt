@@ -1,6 +1,5 @@
 use Rattle.std.specs.Prelude.{IfSome, OnErr, OnOk, is_err}
 use Rattle.std.proofs.Common.{◌≡◌, ℕ, ◌+◌, ◌/◌, ◌%◌, Bool, cond, List, [], ◌∷◌, Option, Some, None, Result, Ok, Err, length, map, set, refl, sym, ap, subst, ◌∙◌, ◌<◌, ◌≤◌, ◌++◌, All, get_or, get_or-set_same, length-set, arith, ◌==◌, ◌-◌, ◌*◌, ⊎_elim, eq-eqb, ne_eqb}
-use Rattle.std.proofs.Math.Nat.{div-lt_iff_lt-mul}
 use Rattle.std.proofs.lemmas.Nat.{div-add-mod'}
 use Rattle.std.specs.List.{range_with_len}
 use Rattle.std.proofs.lemmas.List.{get_or-map, length-map, map-set, set-get_or, get_or-set_other, get_or_past, get_or_push, length_push}

@@ -6,10 +6,12 @@
 #![tactic(auto)]
 
 mod block;
+mod clearing;
 mod namespace;
 mod shelf;
 mod work;
 
+pub use clearing::clear_under;
 pub use namespace::Namespace;
 pub use nvm_model::{Outcome, Piece, PieceResult, ShelfEntry};
 pub use shelf::Shelf;

@@ -3,17 +3,16 @@ use Rattle.std.proofs.lemmas.Bool.{cases_eq}
 use Rattle.std.proofs.lemmas.List.{get_or-set_other}
 use Rattle.nvm_model.specs.declared.line.Line.{Line}
 use Rattle.nvm_model.specs.declared.script.Script.{Script}
-use Rattle.nvm_model.specs.Turn.{InLanes}
 use Rattle.nvm_model.specs.World.{Lane, new_lane}
 use Rattle.nvm_blocks.specs.Namespace.{NamespaceState}
 use Rattle.guest_ram.specs.Window.{WindowState}
 use Rattle.hall.specs.Plan.{PlanState, pieces_of}
 use Rattle.controller.specs.Pair.{ControllerState, IsSameButPair, PairState, pair_of}
 use Rattle.controller.proofs.PairLemmas.{other_pair, other_pieces}
-use Rattle.turns.specs.Parts.{SoFar}
-use Rattle.turns.proofs.PartLaws.{all_did, one_did}
+use Rattle.turns.specs.Parts.{SoFar, Leads}
+use Rattle.turns.proofs.PartLaws.{one_did}
 use Rattle.session.specs.declared.lane_run.LaneRun.{LaneRun}
-use Rattle.session.specs.LaneParts.{HasMore, Leads}
+use Rattle.session.specs.LaneParts.{HasMore}
 use Rattle.session.specs.Lanes.{IsPlanned, IsRunOf, IsWindowOf, Stands, window_of}
 use Rattle.session.specs.Phases.{Fit, PlansLane}
 use Rattle.session.specs.Place.{AreRunsOf, PlaceState, StandsFor}
@@ -22,17 +21,6 @@ use Rattle.session.specs.Shelves.{IsNamespaceOf}
 use Rattle.session.specs.Work.{IsSameButRun, MayPost}
 
 -- A part of a turn, lane after lane.
-
--- all did
-pub all_led : {s : Script} {Part : ℕ → Lane → List Line → Lane → Type 0} {n : ℕ} {runs : List LaneRun} {controller : ControllerState} {windows : List WindowState} {lanes : List Lane} {events new_events : List Line} →
-    length lanes ≡ s.head.lanes → s.head.lanes ≤ n → Leads (SoFar Part n) (StandsFor s runs controller windows) lanes events new_events → Leads (InLanes Part 1) (StandsFor s runs controller windows) lanes events new_events
-all_led {lanes = lanes} count all led = record {
-  new = led.new;
-  added = led.added;
-  part = all_did (omega (arith, count, all)) (omega (arith, led.stands.count, all)) led.part;
-  stands = led.stands;
-  events_are = led.events_are;
-}
 
 -- Lane k, at place i, changed, and no other.
 

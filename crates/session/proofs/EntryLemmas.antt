@@ -1,4 +1,4 @@
-use Rattle.std.proofs.Common.{◌≡◌, ℕ, ◌+◌, ◌-◌, ◌*◌, ◌/◌, ◌<◌, ◌≤◌, ⊎_elim, Option, Some, IfSome, List, [], All, get_or, length, replicate, set, sym, ap, subst, ◌∙◌, arith}
+use Rattle.std.proofs.Common.{◌≡◌, ℕ, ◌+◌, ◌-◌, ◌*◌, ◌/◌, ◌<◌, ◌≤◌, ⊎_elim, List, [], All, get_or, length, replicate, set, sym, ap, subst, ◌∙◌, arith}
 use Rattle.std.proofs.Math.Nat.{div-lt_iff_lt-mul}
 use Rattle.std.proofs.lemmas.Bool.{cases_eq}
 use Rattle.std.proofs.lemmas.List.{get_or_default, length-map, length-replicate}
@@ -23,19 +23,12 @@ use Rattle.session.specs.Work.{AreLeft, due_piece}
 use Rattle.session.proofs.ShelvesLemmas.{same_namespace}
 use Rattle.session.proofs.OrderLemmas.{left_at}
 use Rattle.session.proofs.WorkLemmas.{planned_next}
+use Rattle.hall.proofs.LaneLaws.{lane_at}
 
 -- The entries of a turn's pieces: each shelf has room for those that are done and those that aren't.
 
 abbrev pub HaveRooms : {M : Type 0} → Script → PlanState → NamespaceState M → List ℕ → Type 0
 HaveRooms s plan n left = (i : ℕ) → 1 ≤ ahead s.head.shelf i plan.lanes left → length (get_or (entries_of n) i []) + ahead s.head.shelf i plan.lanes left ≤ s.head.burst * s.head.lanes
-
--- the pieces of the lane at a place, which are those of the lane with the next number
-lane_at : (plan : PlanState) (at : ℕ) → pieces_of plan (at + 1) ≡ get_or plan.lanes at []
-lane_at plan at = let here : at + 1 - 1 ≡ at = omega arith in ap (λ (j : ℕ). get_or plan.lanes j []) here
-
--- found by the lane's number
-pub lane_found : (plan : PlanState) (at k : ℕ) {number : Option ℕ} {pieces : List Piece} → number ≡ Some k → IfSome number (λ n. n ≡ at + 1) → pieces ≡ pieces_of plan k → pieces ≡ get_or plan.lanes at []
-lane_found plan at k is value pieces_are = pieces_are ∙ ap (pieces_of plan) (rw is at value) ∙ lane_at plan at
 
 -- before the first piece, where the entries of the plan's shelves were dropped
 pub rooms_first : {M : Type 0} {s : Script} {runs : List LaneRun} {plan : PlanState} {place : PlaceState M} (left : List ℕ) → HasPlan s runs plan place → All (All (λ (p : Piece). entries_at place.namespace p.span.first ≡ [])) plan.lanes →

@@ -1,7 +1,7 @@
-use Rattle.std.proofs.Common.{◌≡◌, ℕ, ◌+◌, ◌%◌, ◌<◌, ◌≤◌, Bool, true, false, not, List, [], ◌∷◌, ◌++◌, Some, None, Result, Ok, Err, IfOk, IsOk, get_or, length, map, set, refl, sym, ap, subst, ◌∙◌, append_assoc, append-nil, arith}
+use Rattle.std.proofs.Common.{◌≡◌, ℕ, ◌+◌, ◌%◌, ◌<◌, ◌≤◌, Bool, true, false, not, List, [], ◌∷◌, ◌++◌, Some, None, Result, Ok, Err, IfOk, IsOk, get_or, length, map, set, refl, sym, ap, subst, ◌∙◌, append_assoc, arith}
 use Rattle.std.specs.List.{slice_get}
 use Rattle.std.proofs.lemmas.Bool.{false≢true}
-use Rattle.std.proofs.lemmas.List.{length-append, length-map}
+use Rattle.std.proofs.lemmas.List.{length-map}
 use Rattle.std.proofs.lemmas.List.Elements.{All-get_or}
 use Rattle.std.proofs.lemmas.Option.{slice_get_read, slice_get_within}
 use Rattle.nvm_values.specs.Cqe.{CqeFields}
@@ -26,38 +26,16 @@ use Rattle.guest_ram.specs.Window.{WindowState}
 use Rattle.lanes.specs.Guest.{GuestState, Reaped, Reaps, lane_after}
 use Rattle.controller.specs.Pair.{AtLane, ControllerState, Fetches, PairState, Posts, RingsCq, fetch_line, outcomes_of, pair_of, post_line, worked, IsSameButPair}
 use Rattle.controller.specs.Pair.{Stands as ControllerStands}
-use Rattle.turns.specs.Parts.{ActsSome, ReapsSome}
+use Rattle.turns.specs.Parts.{ActsSome, ReapsSome, Leads}
 use Rattle.lanes.proofs.KeptLemmas.{fetches_keep, known_ends, posts_keep, same_ends}
-use Rattle.turns.proofs.PartLaws.{act_done, reaps_none, reaps_one}
+use Rattle.turns.proofs.PartLaws.{act_done, reaps_none, reaps_one, leads_none, added_count}
 use Rattle.session.specs.declared.lane_run.LaneRun.{LaneRun}
-use Rattle.session.specs.LaneParts.{BothStand, DidAct, IsGuestStep, IsSeat, Leads, StandsFree, seat_of}
+use Rattle.session.specs.LaneParts.{BothStand, DidAct, IsGuestStep, IsSeat, StandsFree, seat_of}
 use Rattle.session.specs.Lanes.{IsRunOf, Stands}
 use Rattle.controller.proofs.NextLemmas.{none_worked}
 use Rattle.controller.proofs.PairLemmas.{pair_same, pair_more}
 
 -- The parts of one lane's turn: its events, one part after another.
-
--- Events.
-
-pub leads_none : {X : Type 0} {Part : X → List Line → X → Type 0} {Stood : X → Type 0} (x : X) (events : List Line) → Stood x → Part x [] x → Leads Part Stood x events events
-leads_none x events stands part = record { new = x; added = []; part = part; stands = stands; events_are = sym (append-nil events) }
-
--- one part, and then another
-pub leads_more : {X : Type 0} {First Second Both : X → List Line → X → Type 0} {Stood Then : X → Type 0} {x : X} {a b c : List Line} → ((y z : X) (first second : List Line) → First x first y → Second y second z → Both x (first ++ second) z) →
-    Leads First Stood x a b → ((y : X) → Stood y → Leads Second Then y b c) → Leads Both Then x a c
-leads_more {a = a} join one step =
-    let two = step one.new one.stands in
-    record {
-      new = two.new;
-      added = one.added ++ two.added;
-      part = join one.new two.new one.added two.added one.part two.part;
-      stands = two.stands;
-      events_are = two.events_are ∙ ap (λ (es : List Line). es ++ two.added) one.events_are ∙ append_assoc a one.added two.added;
-    }
-
--- as many events more as were added
-pub added_count : {X : Type 0} {Part : X → List Line → X → Type 0} {Stood : X → Type 0} {x : X} {a b : List Line} → (to : Leads Part Stood x a b) → length b ≡ length a + length to.added
-added_count {a = a} to = ap length to.events_are ∙ length-append a to.added
 
 -- what holds of a good answer, of one that is
 as_ok : {A E : Type 0} (M : Type 0) (r : Result A E) → IsOk r → IfOk r (λ _. M) → M
@@ -181,10 +159,6 @@ act_did idle {s} {k} {l} {run} act events due acts none did is_idle other =
       stands = record { both = did.1; acts = next; none = none };
       events_are = refl;
     }
-
--- some acts of a turn are all of them
-pub acts_are : {on : Bool} {s : Script} {k : ℕ} {l : Lane} {Stood : Lane → Type 0} {a b : List Line} (to : Leads (ActsSome on s k) Stood l a b) → ActsOn s k l to.added to.new → Leads (ActsOn s k) Stood l a b
-acts_are to on = record { new = to.new; added = to.added; part = on; stands = to.stands; events_are = to.events_are }
 
 -- One lane's plan.
 

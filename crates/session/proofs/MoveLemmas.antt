@@ -43,7 +43,8 @@ use Rattle.session.specs.Moves.{Brings, Crosses, Moves, Stays, Tries, begun, bot
 use Rattle.session.specs.Place.{IsPlaceOf, IsReady, IsWaiting, Machine, PlaceState}
 use Rattle.session.specs.Port.{DestCall, Ends, dest_of_place, moves_place, moves_port, port_of, side_of_place}
 use Rattle.session.specs.Sides.{move_set}
-use Rattle.session.proofs.MemoryLemmas.{have_pages, one_shape, same_memory}
+use Rattle.guest_ram.proofs.Copied.{same_memory}
+use Rattle.session.proofs.MemoryLemmas.{have_pages, one_shape}
 use Rattle.session.proofs.RestLemmas.{all_quiet, some_run}
 use Rattle.session.proofs.PortLemmas.{names_kept}
 use Rattle.session.proofs.MoveCallLemmas.{IsShelved, PlaceGoes, from_all, to_all}

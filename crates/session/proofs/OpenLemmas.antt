@@ -63,7 +63,7 @@ opens {M} {session} {from_media} {to_media} {from} {to} is new source destinatio
     let s = session.script in
     let here : Here M = record { lanes = start_lanes s; media = from_media; drawn = 0 } in
     let lanes = starts is new source in
-    let stands : StandsOn s (machine_of session from) here = record { lanes = lanes.0; media = sym source.media_are; words = inr new.words } in
+    let stands : StandsOn s (machine_of session from) here = record { lanes = lanes.0; media = sym source.media_are; words = inr (rw new.mix new.words) } in
     record {
       ready = record { script = is; runs = new.runs; place = is_place is source; running = source.controller.phase_is; mix = new.mix; quiet = lanes.1; stood = here; stands = stands };
       waits = is_waiting is new destination;

@@ -1,4 +1,4 @@
-use Rattle.std.proofs.Common.{◌≡◌, ℕ, ◌+◌, ◌-◌, ◌*◌, ◌<◌, ◌≤◌, ◌⊎◌, ⊎_elim, Bool, List, [], ◌∷◌, ◌++◌, All, length, map, sum, slice_index_or, slice_set, refl, sym, ap, subst, ◌∙◌, arith, append_assoc, append-nil}
+use Rattle.std.proofs.Common.{◌≡◌, ℕ, ◌+◌, ◌-◌, ◌*◌, ◌<◌, ◌≤◌, ⊎_elim, Bool, List, [], ◌∷◌, ◌++◌, All, length, map, sum, slice_index_or, slice_set, sym, ap, subst, ◌∙◌, arith}
 use Rattle.std.proofs.lemmas.Bool.{cases_eq}
 use Rattle.std.proofs.lemmas.List.{length-append, length-set, map-append, get_or-set_same, get_or-set_other}
 use Rattle.std.proofs.lemmas.List.Elements.{All-from_get_or}
@@ -7,62 +7,40 @@ use Rattle.nvm_model.specs.declared.piece.PieceResult.{PieceResult}
 use Rattle.nvm_model.specs.declared.script.Script.{Script}
 use Rattle.nvm_model.specs.declared.trace.Step.{Step}
 use Rattle.nvm_model.specs.Medium.{MediumState}
-use Rattle.nvm_model.specs.Turn.{word_state}
 use Rattle.nvm_model.proofs.ChainLemmas.{chain_more}
 use Rattle.hall.specs.Plan.{PlanState, pieces_of}
-use Rattle.nvm_model.specs.Run.{Here, IsPiece, MayBeNext, piece_line}
+use Rattle.nvm_model.specs.Run.{Here, IsPiece, piece_line}
 use Rattle.session.specs.declared.lane_run.LaneRun.{LaneRun}
 use Rattle.session.specs.declared.order.Order.{Order}
-use Rattle.session.specs.LaneParts.{Leads}
-use Rattle.session.specs.Lanes.{HasWords}
-use Rattle.session.specs.Phases.{DoesPieces, HasPlan, StandsNext, StandsOver}
+use Rattle.session.specs.Lanes.{HasDrawn}
+use Rattle.session.specs.Phases.{DoesPieces, HasPlan, StandsNext}
 use Rattle.nvm_model.specs.Told.{serial}
 use Rattle.session.specs.Place.{PlaceState, StandsOn, machine}
 use Rattle.session.specs.Work.{AreLeft, HasResult, HasResultAt}
 use Rattle.session.proofs.WorkLemmas.{pieces_fit}
 use Rattle.mig_base.proofs.ListLemmas.{element_at, sum_few}
+use Rattle.turns.specs.Parts.{Leads}
 
 -- Pieces in their order.
 
--- no piece yet
-pub works_none : {M I : Type 0} {state : M → MediumState I} {moves : I → Step → Bool → I → Type 0} {s : Script} (Stood : Here M → Type 0) (h : Here M) (events : List Line) → Stood h → Leads (DoesPieces state moves s) Stood h events events
-works_none Stood h events stands = record { new = h; added = []; part = record { pieces = []; working = refl; lines_are = refl }; stands = stands; events_are = sym (append-nil events) }
+-- pieces, and then others
+pub does_more : {M I : Type 0} {state : M → MediumState I} {moves : I → Step → Bool → I → Type 0} {s : Script} {x : Here M} (y z : Here M) (first second : List Line) → DoesPieces state moves s x first y → DoesPieces state moves s y second z → DoesPieces state moves s x (first ++ second) z
+does_more {state = state} {moves} {s} {x} y z first second a b = record {
+  pieces = a.pieces ++ b.pieces;
+  working = chain_more (IsPiece state moves (serial s)) x a.pieces y b.pieces z a.working b.working;
+  lines_are = ap (λ (l : List Line). l ++ second) a.lines_are ∙ ap (λ (l : List Line). map piece_line a.pieces ++ l) b.lines_are ∙ sym (map-append piece_line a.pieces b.pieces);
+}
 
--- one piece more, of the lane that is next
-pub works_more : {M I : Type 0} {state : M → MediumState I} {moves : I → Step → Bool → I → Type 0} {s : Script} {runs : List LaneRun} {order new_order : Order} {new_runs : List LaneRun} {old new : PlaceState M} {h : Here M} {a b c : List Line} (k : ℕ)
-    (x : Leads (DoesPieces state moves s) (StandsOn s (machine runs order old)) h a b) → MayBeNext (serial s) x.new.drawn x.new.lanes k → HasWords s (x.new.drawn + 1) new_order →
-    ((g : Here M) → StandsOver s runs old g → MayBeNext (serial s) g.drawn g.lanes k → Leads (DoesPieces state moves s) (StandsNext s new_runs new g.drawn) g b c) →
-    Leads (DoesPieces state moves s) (StandsOn s (machine new_runs new_order new)) h a c
-works_more {state = state} {moves} {s} {new_order = new_order} {h = h} {a} k x next words step =
-    let y = step x.new (record { lanes = x.stands.lanes; media = x.stands.media }) next in
-    record {
-      new = y.new;
-      added = x.added ++ y.added;
-      part = record {
-        pieces = x.part.pieces ++ y.part.pieces;
-        working = chain_more (IsPiece state moves (serial s)) h x.part.pieces x.new y.part.pieces y.new x.part.working y.part.working;
-        lines_are = ap (λ (l : List Line). l ++ y.added) x.part.lines_are ∙ ap (λ (l : List Line). map piece_line x.part.pieces ++ l) y.part.lines_are ∙ sym (map-append piece_line x.part.pieces y.part.pieces);
-      };
-      stands = record {
-        lanes = y.stands.over.lanes;
-        media = y.stands.over.media;
-        words = subst (λ (m : ℕ). HasWords s m new_order) (sym y.stands.one) words;
-      };
-      events_are = y.events_are ∙ ap (λ (l : List Line). l ++ y.added) x.events_are ∙ append_assoc a x.added y.added;
-    }
-
--- the same pieces, where the order stayed
-pub works_to : {M I : Type 0} {state : M → MediumState I} {moves : I → Step → Bool → I → Type 0} {s : Script} {runs : List LaneRun} {order same : Order} {place : PlaceState M} {h : Here M} {a b : List Line} → same ≡ order →
-    Leads (DoesPieces state moves s) (StandsOn s (machine runs order place)) h a b → Leads (DoesPieces state moves s) (StandsOn s (machine runs same place)) h a b
-works_to {state = state} {moves} {s} {runs} {place = place} {h} {a} {b} is x = subst (λ (o : Order). Leads (DoesPieces state moves s) (StandsOn s (machine runs o place)) h a b) (sym is) x
-
--- the words of an order whose mix is the script's
-pub words_of : (s : Script) (n : ℕ) (order : Order) → order.mix ≡ s.head.mix → HasWords s n order → (order.mix ≡ 0) ⊎ (order.words ≡ word_state order.mix n)
-words_of s n order mix words = subst (λ (m : ℕ). (m ≡ 0) ⊎ (order.words ≡ word_state m n)) (sym mix) words
-
--- and back
-pub has_words : (s : Script) (n : ℕ) (order : Order) → order.mix ≡ s.head.mix → (order.mix ≡ 0) ⊎ (order.words ≡ word_state order.mix n) → HasWords s n order
-has_words s n order mix words = subst (λ (m : ℕ). (m ≡ 0) ⊎ (order.words ≡ word_state m n)) mix words
+-- one piece that was drawn
+pub works_on : {M I : Type 0} {state : M → MediumState I} {moves : I → Step → Bool → I → Type 0} {s : Script} {runs : List LaneRun} {order : Order} {place : PlaceState M} {h : Here M} {a b : List Line} →
+    HasDrawn (h.drawn + 1) order → Leads (DoesPieces state moves s) (StandsNext s runs place h.drawn) h a b → Leads (DoesPieces state moves s) (StandsOn s (machine runs order place)) h a b
+works_on {order = order} drawn x = record {
+  new = x.new;
+  added = x.added;
+  part = x.part;
+  stands = record { lanes = x.stands.over.lanes; media = x.stands.over.media; words = subst (λ (m : ℕ). HasDrawn m order) (sym x.stands.one) drawn };
+  events_are = x.events_are;
+}
 
 -- What is left.
 

@@ -1,4 +1,4 @@
-use Rattle.std.proofs.Common.{◌≡◌, ℕ, ◌+◌, ◌-◌, ◌<◌, ◌≤◌, List, [], ◌∷◌, length, slice_index_or, refl, sym, ap, subst, ◌∙◌, arith}
+use Rattle.std.proofs.Common.{◌≡◌, ℕ, ◌+◌, ◌-◌, ◌<◌, ◌≤◌, List, [], ◌∷◌, length, slice_index_or, refl, sym, ap, subst, ◌∙◌, arith, ◌↔◌}
 use Rattle.std.specs.List.{All}
 use Rattle.std.proofs.lemmas.List.Elements.{All-from_get_or}
 use Rattle.nvm_model.specs.declared.script.Script.{Script}
@@ -8,7 +8,7 @@ use Rattle.nvm_model.specs.ScriptText.{IsScript, IsSet}
 use Rattle.nvm_model.specs.World.{Lane, acts_of, new_lane, set_of}
 use Rattle.nvm_model.proofs.PlaceLemmas.{places_between-mods}
 use Rattle.guest_ram.specs.Window.{WindowState}
-use Rattle.mig_base.proofs.ListLemmas.{empty_list}
+use Rattle.mig_base.proofs.ListLemmas.{element_at, empty_list}
 use Rattle.nvm_ring.proofs.QueueLemmas.{last_told, told_few}
 use Rattle.controller.specs.Pair.{ControllerState, PairState, no_pair, outcomes_of, pair_of, worked}
 use Rattle.turns.specs.Frame.{AreAtRest, AreServed, IsAtRest, total_left, work_left}
@@ -21,13 +21,9 @@ use Rattle.turns.proofs.ScriptLaws.{set_fits}
 
 -- What is known of the lanes for which runs stand between two turns.
 
--- one of a list that isn't empty
-some_of : {X : Type 0} (xs : List X) → 1 ≤ length xs → X
-some_of [] some = absurd (omega (arith, some))
-some_of (x ∷ xs) some = x
-
+-- one of the runs
 pub some_run : {s : Script} {runs : List LaneRun} → IsScript s → AreRunsOf s runs → LaneRun
-some_run {runs = runs} is are = some_of runs (omega (arith, are.count, is.head.lanes))
+some_run {runs = runs} is are = element_at runs 0 (omega (arith, are.count, is.head.lanes))
 
 -- no command of any pair is under way
 pub all_quiet : {s : Script} {runs : List LaneRun} {c : ControllerState} → AreQuiet s runs c → length c.pairs ≡ s.head.lanes → All (λ (p : PairState). p.commands ≡ []) c.pairs
@@ -46,31 +42,25 @@ lane_rests {s} {k} {run} {lane = lane} is stands between =
     let acts : length run.script.acts.items ≡ length (acts_of k s.acts) = ap length is.script.acts_are ∙ ap (λ (j : ℕ). length (acts_of j s.acts)) is.lane in
     record { acts = omega (arith, stands.acts, is.few, acts); none = none; fetched = o.fetched; posted = posted; reaped = o.reaped; told = last_told o posted }
 
--- where nothing waits and the acts are done, the lane is complete
+-- it has done its acts, and waits for nothing, where the lane is complete
 lane_completes : {s : Script} {k : ℕ} {run : LaneRun} {pair : PairState} {window : WindowState} {lane : Lane} → IsRunOf s k run → Stands s k run pair window lane →
-    (run.acts_done ≡ length run.script.acts.items) × (run.guest.waiting ≡ 0) → IsLaneComplete s k lane
-lane_completes {s} {k} {run} {lane = lane} is stands done =
+    (run.acts_done ≡ length run.script.acts.items) × (run.guest.waiting ≡ 0) ↔ IsLaneComplete s k lane
+lane_completes {s} {k} {run} {lane = lane} is stands =
     let o = stands.ordered in
     let waits = stands.guest_ends.waits in
-    let acts : length run.script.acts.items ≡ length (acts_of k s.acts) = ap length is.script.acts_are ∙ ap (λ (j : ℕ). length (acts_of j s.acts)) is.lane in
-    record {
-      acts = omega (arith, stands.acts, done.0, acts);
-      quiet = record {
-        all_fetched = omega (arith, done.1, waits, o.fetched, o.posted, o.reaped);
-        none_running = empty_list lane.running (omega (arith, done.1, waits, o.fetched, o.posted, o.reaped));
-        all_reaped = omega (arith, done.1, waits, o.fetched, o.posted, o.reaped);
-      };
-    }
-
--- and the other way round
-run_completes : {s : Script} {k : ℕ} {run : LaneRun} {pair : PairState} {window : WindowState} {lane : Lane} → IsRunOf s k run → Stands s k run pair window lane → IsLaneComplete s k lane →
-    (run.acts_done ≡ length run.script.acts.items) × (run.guest.waiting ≡ 0)
-run_completes {s} {k} {run} {lane = lane} is stands done =
-    let o = stands.ordered in
-    let quiet = done.quiet in
-    let none : length lane.running ≡ 0 = ap length quiet.none_running in
-    let acts : length run.script.acts.items ≡ length (acts_of k s.acts) = ap length is.script.acts_are ∙ ap (λ (j : ℕ). length (acts_of j s.acts)) is.lane in
-    (omega (arith, stands.acts, done.acts, acts), omega (arith, stands.guest_ends.waits, quiet.all_fetched, quiet.all_reaped, o.posted, none))
+    let acts : length run.script.acts.items ≡ length (acts_of k s.acts) = ap length is.script.acts_are ∙ ap (λ (j : ℕ). length (acts_of j s.acts)) is.lane in (
+      λ done. record {
+        acts = omega (arith, stands.acts, done.0, acts);
+        quiet = record {
+          all_fetched = omega (arith, done.1, waits, o.fetched, o.posted, o.reaped);
+          none_running = empty_list lane.running (omega (arith, done.1, waits, o.fetched, o.posted, o.reaped));
+          all_reaped = omega (arith, done.1, waits, o.fetched, o.posted, o.reaped);
+        };
+      },
+      λ done.
+          let none : length lane.running ≡ 0 = ap length done.quiet.none_running in
+          (omega (arith, stands.acts, done.acts, acts), omega (arith, waits, done.quiet.all_fetched, done.quiet.all_reaped, o.posted, none)),
+    )
 
 -- what the run has left is what the lane has left
 lane_work : {s : Script} {k : ℕ} {run : LaneRun} {pair : PairState} {window : WindowState} {lane : Lane} → IsRunOf s k run → IsSet (set_of s.head k) → Stands s k run pair window lane → pair.commands ≡ [] →
@@ -116,13 +106,13 @@ pub complete_is : {s : Script} {runs : List LaneRun} {controller : ControllerSta
 complete_is {s} is are stands done k there =
     let few : k ≤ s.head.lanes = omega (arith, there.1, stands.count) in
     let d = some_run is are in
-    lane_completes (are.each k d there.0 few) (stands.each k d (new_lane 0) there.0 few) (done k d there.0 few)
+    (lane_completes (are.each k d there.0 few) (stands.each k d (new_lane 0) there.0 few)).0 (done k d there.0 few)
 
 -- and the other way round
 pub done_is : {s : Script} {runs : List LaneRun} {controller : ControllerState} {windows : List WindowState} {lanes : List Lane} → AreRunsOf s runs → StandsFor s runs controller windows lanes → Complete s (among lanes) → AreAllDone s runs
 done_is {lanes = lanes} are stands complete k d first few =
     let there : k ≤ length lanes = omega (arith, few, stands.count) in
-    run_completes (are.each k d first few) (stands.each k d (new_lane 0) first few) (complete k (first, there))
+    (lane_completes (are.each k d first few) (stands.each k d (new_lane 0) first few)).1 (complete k (first, there))
 
 -- what is left is what the lanes have left
 pub work_is : {s : Script} {runs : List LaneRun} {controller : ControllerState} {windows : List WindowState} {lanes : List Lane} → IsScript s → AreRunsOf s runs → AreQuiet s runs controller → StandsFor s runs controller windows lanes → total_work 1 runs controller ≡ total_left s 1 lanes

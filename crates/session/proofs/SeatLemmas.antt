@@ -15,9 +15,10 @@ use Rattle.nvm_model.specs.declared.script.Script.{Script}
 use Rattle.nvm_model.specs.declared.line.Line.{Line}
 use Rattle.nvm_model.specs.World.{Lane}
 use Rattle.session.specs.declared.lane_run.LaneRun.{LaneRun}
-use Rattle.session.specs.LaneParts.{Leads, IsSeat, seat_of}
+use Rattle.session.specs.LaneParts.{IsSeat, seat_of}
 use Rattle.session.specs.Place.{PlaceState}
 use Rattle.nvm_blocks.proofs.NamespaceLaws.{called_same}
+use Rattle.turns.specs.Parts.{Leads}
 
 -- A place's parts while they are lent.
 

@@ -11,12 +11,12 @@ use Rattle.turns.specs.Frame.{Frame, total_left}
 use Rattle.nvm_model.specs.Run.{Here, NoneLeft, among, piece_line}
 use Rattle.turns.proofs.FrameLemmas.{frame_less, frame_some, no_first}
 use Rattle.session.specs.declared.lane_run.LaneRun.{LaneRun}
-use Rattle.session.specs.LaneParts.{Leads}
 use Rattle.session.specs.Phases.{DoesPieces, Fit}
 use Rattle.nvm_model.specs.Told.{serial}
 use Rattle.session.specs.Place.{AreAllDone, AreQuiet, DoesTurn, IsReady, Machine, PlaceState, StandsFor, StandsOn, machine, total_work}
 use Rattle.turns.proofs.NextPieceLaws.{pieces_keep}
 use Rattle.session.proofs.RestLemmas.{are_served, at_rest, done_is, work_is}
+use Rattle.turns.specs.Parts.{Leads}
 
 -- A turn by its phases.
 

@@ -26,7 +26,6 @@ use Rattle.turns.proofs.NextPieceLaws.{lanes_finished}
 use Rattle.nvm_model.specs.Run.{Here, IsPiece, MayBeNext, NoneLeft}
 use Rattle.session.specs.declared.lane_run.LaneRun.{LaneRun}
 use Rattle.session.specs.declared.lane_script.LaneScript.{LaneScript}
-use Rattle.session.specs.LaneParts.{Leads}
 use Rattle.session.specs.Lanes.{ArePlanned, IsLaneOf, IsPlanned, IsRunOf, Stands, window_of}
 use Rattle.session.specs.Phases.{AreDone, DoesPieces, HasPieceLeft, HasPlan, StandsNext, StandsOver}
 use Rattle.nvm_model.specs.Told.{serial}
@@ -40,6 +39,7 @@ use Rattle.controller.proofs.DoneLemmas.{piece_does}
 use Rattle.mig_base.proofs.ListLemmas.{element_at}
 use Rattle.session.proofs.AllLanesLemmas.{IsSameButLane, fit_more, stands_more}
 use Rattle.session.proofs.SeatLemmas.{other_windows}
+use Rattle.turns.specs.Parts.{Leads}
 
 -- A piece that is done: what it does to its lane, and to all lanes over their media.
 

@@ -1,4 +1,4 @@
-use Rattle.std.specs.Prelude.{◌≡◌, ℕ, ◌+◌, ◌≤◌, Bool, true, false, List, [], ◌++◌, Vec, length, vec_capacity, vec_len}
+use Rattle.std.specs.Prelude.{◌≡◌, ℕ, ◌+◌, ◌≤◌, Bool, true, false, [], Vec, length, vec_capacity, vec_len}
 use Rattle.std.specs.declared.alloc.Global.{Global}
 use Rattle.nvm_model.specs.declared.line.Line.{Line}
 use Rattle.nvm_model.specs.declared.script.Act.{Act}
@@ -28,14 +28,6 @@ pub record HasMore (most : ℕ) (old new : Vec Line Global) : Type 0 where
 pub record HasOne (one : Bool) (old new : Vec Line Global) : Type 0 where
   pub more : HasMore 1 old new
   pub exact : one ≡ true → vec_len new ≡ vec_len old + 1
-
--- events lead from x to another, for which the state then stands
-pub record Leads {X : Type 0} (Part : X → List Line → X → Type 0) (Stood : X → Type 0) (x : X) (events new_events : List Line) : Type 0 where
-  pub new : X
-  pub added : List Line
-  pub part : Part x added new
-  pub stands : Stood new
-  pub events_are : new_events ≡ events ++ added
 
 -- The parts of one lane's turn.
 

@@ -74,9 +74,5 @@ pub record Stands (s : Script) (k : ℕ) (run : LaneRun) (pair : PairState) (win
   pub running : lane.running ≡ worked s.head.shelf pair.commands (outcomes_of run.results.items)
 
 -- the stream of the order's words stands where n were drawn
-abbrev pub HasWords : Script → ℕ → Order → Type 0
-HasWords s n order = (s.head.mix ≡ 0) ⊎ (order.words ≡ word_state s.head.mix n)
-
--- the same by the order's own mix
 abbrev pub HasDrawn : ℕ → Order → Type 0
 HasDrawn n order = (order.mix ≡ 0) ⊎ (order.words ≡ word_state order.mix n)

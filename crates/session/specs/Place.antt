@@ -14,7 +14,7 @@ use Rattle.nvm_model.specs.Run.{Here, IsTurn, TurnDone, turn_lines}
 use Rattle.nvm_model.specs.Told.{serial}
 use Rattle.session.specs.declared.lane_run.LaneRun.{LaneRun}
 use Rattle.session.specs.declared.order.Order.{Order}
-use Rattle.session.specs.Lanes.{HasWords, HaveWindows, IsRunOf, Stands, window_of}
+use Rattle.session.specs.Lanes.{HasDrawn, HaveWindows, IsRunOf, Stands, window_of}
 use Rattle.session.specs.Shelves.{IsNamespaceOf}
 
 -- A place is one side of a run: its media in shelves, its guests' memory, and its controller.
@@ -70,7 +70,7 @@ pub record StandsFor (s : Script) (runs : List LaneRun) (controller : Controller
 pub record StandsOn {M : Type 0} (s : Script) (m : Machine M) (h : Here M) : Type 0 where
   pub lanes : StandsFor s m.runs m.place.controller m.place.windows h.lanes
   pub media : h.media ≡ media_of m.place.namespace
-  pub words : HasWords s h.drawn m.order
+  pub words : HasDrawn h.drawn m.order
 
 -- a machine between two turns, whose controller runs
 pub record IsReady {M : Type 0} (s : Script) (m : Machine M) : Type 0 where

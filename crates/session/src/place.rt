@@ -1,10 +1,11 @@
 ghost use Rattle.std.specs.Prelude.{◌≡◌, ◌+◌, ◌<◌, ◌≤◌, [], All, length, vec_capacity, vec_len};
 ghost use Rattle.nvm_model.specs.Turn.{Plans, PostsAll};
 ghost use Rattle.nvm_model.specs.World.{Lane};
-ghost use Rattle.nvm_blocks.specs.Namespace.{Enters, IsSameButEntries, block_count, entries_at};
+ghost use Rattle.nvm_blocks.specs.Namespace.{Enters, block_count, entries_at};
 ghost use Rattle.hall.specs.Plan.{pieces_of};
 ghost use Rattle.controller.specs.Pair.{pair_of};
-ghost use Rattle.session.specs.LaneParts.{HasMore, Leads};
+ghost use Rattle.turns.specs.Parts.{Leads};
+ghost use Rattle.session.specs.LaneParts.{HasMore};
 ghost use Rattle.session.specs.Lanes.{IsRunOf};
 ghost use Rattle.session.specs.Phases.{FitPlan, PlansLane};
 ghost use Rattle.session.specs.Seats.{DoesPieceAt, DropsEntries, HasSeat, IsForPlace, IsSameButSeat, MayPlan, Sits};
@@ -19,7 +20,7 @@ use controller::Controller;
 use guest_ram::Ram;
 use hall::Plan;
 use mig_medium::Medium;
-use nvm_blocks::Namespace;
+use nvm_blocks::{Namespace, clear_under};
 use nvm_model::{Line, Piece, PieceResult, Script};
 use std::marker::Model;
 
@@ -124,16 +125,5 @@ impl<M: Medium> Place<M> {
     {
         let window = self.ram.window_mut(run.script.lane);
         post_lane(script, run, &mut self.controller, window, events);
-    }
-}
-
-/// Drops the entries of the shelves of a namespace on which pieces lie.
-fn clear_under<M: Medium>(namespace: &mut Namespace<M>, pieces: &[Piece])
-    requires { All (λ p. p.span.first < block_count namespace.old) pieces.now }
-    ensures kept { IsSameButEntries namespace.old namespace.new }
-    ensures cleared { All (λ p. entries_at namespace.new p.span.first ≡ []) pieces.now }
-{
-    for piece in pieces {
-        namespace.clear_at(piece.span.first);
     }
 }

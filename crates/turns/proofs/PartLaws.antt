@@ -1,7 +1,7 @@
-use Rattle.std.proofs.Common.{◌≡◌, ℕ, suc, ◌+◌, ◌-◌, ◌<◌, ◌≤◌, Bool, true, false, not, inl, inr, ⊎_elim, List, [], ◌∷◌, ◌++◌, Some, get_or, length, set, take, slice_get, slice_index_or, refl, sym, ap, subst, ◌∙◌, arith}
+use Rattle.std.proofs.Common.{◌≡◌, ℕ, suc, ◌+◌, ◌-◌, ◌<◌, ◌≤◌, Bool, true, false, not, inl, inr, ⊎_elim, List, [], ◌∷◌, ◌++◌, Some, get_or, length, set, take, slice_get, slice_index_or, refl, sym, ap, subst, ◌∙◌, arith, append_assoc}
 use Rattle.std.proofs.lemmas.Bool.{cases_lt, false≢true}
 use Rattle.std.proofs.lemmas.Grind.{drop_more_same}
-use Rattle.std.proofs.lemmas.List.{drop-set-lt, get_or-drop, length-append, length-take-le, take_all, take_more, take_more_set}
+use Rattle.std.proofs.lemmas.List.{drop-set-lt, get_or-drop, length-append, length-take-le, take_all, take_more, take_more_set, append-nil}
 use Rattle.std.proofs.lemmas.Option.{same_Some, slice_get_within}
 use Rattle.mig_base.proofs.ListLemmas.{all_append}
 use Rattle.nvm_model.specs.declared.command.Completion.{Completion}
@@ -19,10 +19,32 @@ use Rattle.nvm_model.specs.Turn.Kind.{Act as ActKind}
 use Rattle.nvm_model.specs.World.{Lane, acts_of, new_lane, set_of}
 use Rattle.nvm_model.proofs.LaneLemmas.{lane_events_more}
 use Rattle.turns.specs.Frame.{AreAtRest, AreServed, IsAtRest}
-use Rattle.turns.specs.Parts.{ActsSome, ReapsSome, SoFar, Stops}
+use Rattle.turns.specs.Parts.{ActsSome, ReapsSome, SoFar, Stops, Leads}
 use Rattle.turns.proofs.FrameLemmas.{lanes_more}
 
 -- The parts of a turn, one after another.
+
+-- Events.
+
+pub leads_none : {X : Type 0} {Part : X → List Line → X → Type 0} {Stood : X → Type 0} (x : X) (events : List Line) → Stood x → Part x [] x → Leads Part Stood x events events
+leads_none x events stands part = record { new = x; added = []; part = part; stands = stands; events_are = sym (append-nil events) }
+
+-- one part, and then another
+pub leads_more : {X : Type 0} {First Second Both : X → List Line → X → Type 0} {Stood Then : X → Type 0} {x : X} {a b c : List Line} → ((y z : X) (first second : List Line) → First x first y → Second y second z → Both x (first ++ second) z) →
+    Leads First Stood x a b → ((y : X) → Stood y → Leads Second Then y b c) → Leads Both Then x a c
+leads_more {a = a} join one step =
+    let two = step one.new one.stands in
+    record {
+      new = two.new;
+      added = one.added ++ two.added;
+      part = join one.new two.new one.added two.added one.part two.part;
+      stands = two.stands;
+      events_are = two.events_are ∙ ap (λ (es : List Line). es ++ two.added) one.events_are ∙ append_assoc a one.added two.added;
+    }
+
+-- as many events more as were added
+pub added_count : {X : Type 0} {Part : X → List Line → X → Type 0} {Stood : X → Type 0} {x : X} {a b : List Line} → (to : Leads Part Stood x a b) → length b ≡ length a + length to.added
+added_count {a = a} to = ap length to.events_are ∙ length-append a to.added
 
 -- Reaps.
 
@@ -139,6 +161,10 @@ acts_full full x = record { are = x.are; steps = x.steps; few = omega (arith, fu
 pub acts_stop : {s : Script} {k : ℕ} {a b : Lane} {events : List Line} → length events ≤ s.head.burst → ActsSome false s k a events b → ActsOn s k a events b
 acts_stop few x = record { are = x.are; steps = x.steps; few = few; none_behind = x.none_behind; stops = inr x.stops }
 
+-- some acts of a turn are all of them
+pub acts_are : {on : Bool} {s : Script} {k : ℕ} {l : Lane} {Stood : Lane → Type 0} {a b : List Line} (to : Leads (ActsSome on s k) Stood l a b) → ActsOn s k l to.added to.new → Leads (ActsOn s k) Stood l a b
+acts_are to on = record { new = to.new; added = to.added; part = on; stands = to.stands; events_are = to.events_are }
+
 -- Lane after lane.
 
 pub none_yet : (Part : ℕ → Lane → List Line → Lane → Type 0) (lanes : List Lane) → SoFar Part 0 lanes [] lanes
@@ -148,6 +174,10 @@ pub all_did : {Part : ℕ → Lane → List Line → Lane → Type 0} {n : ℕ} 
 all_did {Part} {n} {lanes} {new} {events} few new_few x =
     subst (λ (ls : List Lane). InLanes Part 1 ls events new) (take_all n lanes few)
     (subst (λ (ls : List Lane). InLanes Part 1 (take n lanes) events ls) (take_all n new new_few) x.parts)
+
+-- all lanes led
+pub all_led : {Part : ℕ → Lane → List Line → Lane → Type 0} {Stood : List Lane → Type 0} {n : ℕ} {lanes : List Lane} {a b : List Line} (led : Leads (SoFar Part n) Stood lanes a b) → length lanes ≤ n → length led.new ≤ n → Leads (InLanes Part 1) Stood lanes a b
+all_led led few new_few = record { new = led.new; added = led.added; part = all_did few new_few led.part; stands = led.stands; events_are = led.events_are }
 
 -- the next lane did its part too
 pub one_did : {Part : ℕ → Lane → List Line → Lane → Type 0} {lanes new : List Lane} {events more : List Line} (i : ℕ) (d lane : Lane) → i < length lanes → i < length new → SoFar Part i lanes events new → Part (i + 1) (get_or new i d) more lane →

@@ -1,4 +1,4 @@
-use Rattle.std.specs.Prelude.{◌≡◌, ◌⊎◌, ℕ, ◌+◌, ◌<◌, Bool, true, false, List, drop, length, take}
+use Rattle.std.specs.Prelude.{◌≡◌, ◌⊎◌, ℕ, ◌+◌, ◌<◌, Bool, true, false, List, ◌++◌, drop, length, take}
 use Rattle.nvm_model.specs.declared.line.Line.{Line}
 use Rattle.nvm_model.specs.declared.script.Script.{Script}
 use Rattle.nvm_model.specs.Turn.{AreOf, InLanes, IsIdle, LaneEvents, NoneLegal}
@@ -6,6 +6,14 @@ use Rattle.nvm_model.specs.Turn.Kind.{Act, Reap}
 use Rattle.nvm_model.specs.World.{Lane}
 
 -- The parts of a turn, as far as they were done.
+
+-- events lead from x to another, for which the state then stands
+pub record Leads {X : Type 0} (Part : X → List Line → X → Type 0) (Stood : X → Type 0) (x : X) (events new_events : List Line) : Type 0 where
+  pub new : X
+  pub added : List Line
+  pub part : Part x added new
+  pub stands : Stood new
+  pub events_are : new_events ≡ events ++ added
 
 -- completions of a lane were reaped; where none is left, all were
 pub record ReapsSome (left : Bool) (s : Script) (k : ℕ) (lane : Lane) (events : List Line) (new : Lane) : Type 0 where

@@ -5,8 +5,8 @@ use Rattle.nvm_model.specs.declared.piece.Piece.{Piece}
 use Rattle.nvm_blocks.specs.Namespace.{block_count, entries_at}
 use Rattle.nvm_blocks.proofs.NamespaceLaws.{entries_more, entries_same, none_at, same_count}
 use Rattle.session.specs.Place.{PlaceState}
-use Rattle.session.proofs.EntryLemmas.{lane_found}
 use Rattle.session.proofs.pieces.clear_shelves.Goals as goal
+use Rattle.hall.proofs.LaneLaws.{lane_found}
 
 pub loop-at-init : goal.loop-at-init
 loop-at-init g c = record { kept = record { entries = entries_same c.args.place.now.namespace; rest = refl }; cleared = λ i d none. absurd (omega (arith, none)) }

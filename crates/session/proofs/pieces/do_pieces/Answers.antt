@@ -1,16 +1,21 @@
-use Rattle.std.proofs.Common.{◌≡◌, ◌+◌, ◌<◌, ℕ, List, map, refl, sym, ap, ◌∙◌, arith}
+use Rattle.std.proofs.Common.{◌≡◌, ◌+◌, ◌<◌, ℕ, List, map, refl, sym, ap, ◌∙◌, arith, [], subst}
 use Rattle.nvm_model.specs.Turn.{left_in, next_lane}
-use Rattle.session.specs.Lanes.{HasWords}
-use Rattle.session.proofs.OrderLemmas.{all_done, has_words, left_at, left_few, left_less, words_of, works_more, works_none, works_to}
+use Rattle.session.proofs.OrderLemmas.{all_done, left_at, left_few, left_less, does_more, works_on}
 use Rattle.session.proofs.WorkLemmas.{lefts_are}
 use Rattle.session.proofs.pieces.do_pieces.Goals as goal
 use Rattle.mig_base.proofs.ListLemmas.{element_at, sum_less, sum_none}
 use Rattle.session.proofs.EntryLemmas.{room_due, rooms_first, rooms_next}
 use Rattle.hall.specs.Plan.{pieces_of}
+use Rattle.turns.proofs.PartLaws.{leads_more, leads_none}
+use Rattle.nvm_model.specs.Run.{Here}
+use Rattle.session.specs.declared.order.Order.{Order}
+use Rattle.turns.specs.Parts.{Leads}
+use Rattle.session.specs.Phases.{DoesPieces}
+use Rattle.session.specs.Place.{StandsOn, machine}
 
 pub pieces-init : goal.pieces-init
 pieces-init g c = record {
-  works = λ h stands. works_none _ h c.args.events.now.items stands;
+  works = λ h stands. leads_none h c.args.events.now.items stands (record { pieces = []; working = refl; lines_are = refl });
   has = c.requires.has.0;
   left = c.count_left.ensures;
   rooms = rooms_first c.count_left.new.left c.requires.has.0 c.requires.clear;
@@ -43,7 +48,6 @@ pub pieces-preserved : goal.pieces-preserved
 pieces-preserved g c =
     let s = c.args.script.now in
     let now = c.pieces.invariant in
-    let order = c.pieces.order in
     let left = c.pieces.left in
     let at = c.in-Some.at in
     let there = c.in-Some.ensures.there in
@@ -52,15 +56,11 @@ pieces-preserved g c =
     let d = element_at c.pieces.runs.items at (omega (arith, low, now.has.fit.own.count)) in
     let none = element_at (pieces_of c.args.plan.now (at + 1)) 0 (omega (arith, left_at now.left at d low, there.1)) in
     record {
-      works = λ h stands.
-          let x = now.works h stands in
-          let m = x.new.drawn in
-          let had = words_of s m order now.mix x.stands.words in
-          let lefts : map (left_in s.head.shelf) x.new.lanes ≡ left = lefts_are d now.has.planned now.left x.stands.lanes in
-          let next : at + 1 ≡ next_lane s.head.mix m (map (left_in s.head.shelf) x.new.lanes) =
-          (c.in-Some.ensures.next m had).0 ∙ ap (λ (k : ℕ). next_lane k m left) now.mix ∙ ap (λ (l : List ℕ). next_lane s.head.mix m l) (sym lefts) in
-          let drawn : HasWords s (m + 1) c.pick.new.self = has_words s (m + 1) c.pick.new.self (c.in-Some.ensures.mix ∙ now.mix) (c.in-Some.ensures.next m had).1 in
-          works_more (at + 1) x next drawn c.do_piece.ensures.works;
+      works = λ h stands. leads_more does_more (now.works h stands) (λ y stood.
+          let lefts : map (left_in s.head.shelf) y.lanes ≡ left = lefts_are d now.has.planned now.left stood.lanes in
+          let drawn = c.in-Some.ensures.next y.drawn stood.words in
+          let next : at + 1 ≡ next_lane s.head.mix y.drawn (map (left_in s.head.shelf) y.lanes) = drawn.0 ∙ ap (λ (k : ℕ). next_lane k y.drawn left) now.mix ∙ ap (λ (l : List ℕ). next_lane s.head.mix y.drawn l) (sym lefts) in
+          works_on drawn.1 (c.do_piece.ensures.works y (record { lanes = stood.lanes; media = stood.media }) next));
       has = c.do_piece.ensures.has;
       left = left_less at done.result low there.1 done.has now.left;
       rooms = rooms_next at d none now.has now.left now.rooms low there.1 (done.entered d none);
@@ -71,7 +71,7 @@ pieces-preserved g c =
     }
 
 pub returns-clause-works : goal.returns-clause-works
-returns-clause-works g c = λ h stands. works_to c.in_default.ensures.none.1 (c.pieces.invariant.works h stands)
+returns-clause-works g c = subst (λ (o : Order). (h : Here g.row.M.Denot) → StandsOn c.args.script.now (machine c.args.runs.now.items c.args.order.now c.args.place.now) h → Leads (DoesPieces g.M.Medium.state g.M.Medium.moves c.args.script.now) (StandsOn c.args.script.now (machine c.pieces.runs.items o c.pieces.place)) h c.args.events.now.items c.pieces.events.items) (sym c.in_default.ensures.none.1) c.pieces.invariant.works
 
 pub returns-clause-has : goal.returns-clause-has
 returns-clause-has g c = (c.pieces.invariant.has, all_done c.pieces.invariant.left c.in_default.ensures.none.0)

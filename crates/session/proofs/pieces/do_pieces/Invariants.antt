@@ -1,11 +1,11 @@
 use Rattle.std.proofs.Common.{◌≡◌, ◌+◌, sum, vec_len, vec_capacity}
 use Rattle.nvm_model.specs.Run.{Here}
-use Rattle.session.specs.LaneParts.{Leads}
 use Rattle.session.specs.Phases.{DoesPieces, HasPlan}
 use Rattle.session.specs.Place.{StandsOn, machine}
 use Rattle.session.specs.Work.{AreLeft}
 use Rattle.session.proofs.pieces.do_pieces.Given as goal
 use Rattle.session.proofs.EntryLemmas.{HaveRooms}
+use Rattle.turns.specs.Parts.{Leads}
 
 abbrev pub invariant-pieces : goal.invariant-pieces
 invariant-pieces g l =

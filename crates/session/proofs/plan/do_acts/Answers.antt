@@ -1,6 +1,6 @@
 use Rattle.std.proofs.Common.{◌∙◌, arith, refl}
-use Rattle.turns.proofs.PartLaws.{acts_full, acts_more, acts_start, acts_stop}
-use Rattle.session.proofs.LanePartLemmas.{acts_are, added_count, leads_more, leads_none, step_more, step_none}
+use Rattle.turns.proofs.PartLaws.{acts_full, acts_more, acts_start, acts_stop, leads_none, leads_more, added_count, acts_are}
+use Rattle.session.proofs.LanePartLemmas.{step_more, step_none}
 use Rattle.session.proofs.plan.do_acts.Goals as goal
 
 pub loop-done-init : goal.loop-done-init

@@ -1,7 +1,7 @@
 use Rattle.std.proofs.Common.{◌≡◌, ◌+◌, true, vec_len, vec_capacity}
 use Rattle.nvm_model.specs.World.{Lane}
-use Rattle.turns.specs.Parts.{ActsSome}
-use Rattle.session.specs.LaneParts.{IsGuestStep, Leads, StandsFree, seat_of}
+use Rattle.turns.specs.Parts.{ActsSome, Leads}
+use Rattle.session.specs.LaneParts.{IsGuestStep, StandsFree, seat_of}
 use Rattle.session.proofs.plan.do_acts.Given as goal
 
 abbrev pub invariant-loop-done : goal.invariant-loop-done

@@ -2,10 +2,10 @@ use Rattle.std.proofs.Common.{◌+◌, ◌∙◌, not, length, ap, sym, ℕ, Lis
 use Rattle.std.specs.List.{slice_get}
 use Rattle.nvm_model.specs.declared.line.Line.{Line}
 use Rattle.nvm_model.specs.World.{acts_of}
-use Rattle.turns.specs.Parts.{ActsSome}
-use Rattle.turns.proofs.PartLaws.{act_refused, acts_all}
-use Rattle.session.specs.LaneParts.{Leads, StandsFree, seat_of}
-use Rattle.session.proofs.LanePartLemmas.{act_did, act_fits, leads_none, next_due}
+use Rattle.turns.specs.Parts.{ActsSome, Leads}
+use Rattle.turns.proofs.PartLaws.{act_refused, acts_all, leads_none}
+use Rattle.session.specs.LaneParts.{StandsFree, seat_of}
+use Rattle.session.proofs.LanePartLemmas.{act_did, act_fits, next_due}
 use Rattle.session.proofs.plan.do_next_act.Goals as goal
 
 pub returns-then-place-len-clause-acts : goal.returns-then-place-len-clause-acts

@@ -2,11 +2,11 @@ use Rattle.std.proofs.Common.{◌≡◌, ◌*◌, ◌-◌, ◌≤◌, ℕ, List,
 use Rattle.nvm_model.specs.Turn.{Plans}
 use Rattle.nvm_model.specs.World.{Lane}
 use Rattle.controller.specs.Pair.{pair_of}
-use Rattle.session.specs.LaneParts.{HasMore, Leads}
+use Rattle.session.specs.LaneParts.{HasMore}
 use Rattle.session.specs.declared.lane_run.LaneRun.{LaneRun}
 use Rattle.session.specs.Phases.{Fit, FitPlan}
 use Rattle.session.specs.Place.{StandsFor}
-use Rattle.turns.specs.Parts.{SoFar}
+use Rattle.turns.specs.Parts.{SoFar, Leads}
 use Rattle.session.proofs.AllLanesLemmas.{PlannedTo}
 use Rattle.session.proofs.plan.plan_all.Given as goal
 

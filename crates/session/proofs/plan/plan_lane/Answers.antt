@@ -7,11 +7,12 @@ use Rattle.nvm_model.specs.World.{set_of}
 use Rattle.guest_ram.specs.Window.{data_pages}
 use Rattle.controller.specs.Pair.{IsFetched, fetch_line, lane_pieces, pair_of}
 use Rattle.controller.proofs.StepLemmas.{all_fetched}
-use Rattle.session.specs.LaneParts.{IsGuestStep, Leads, seat_of}
+use Rattle.session.specs.LaneParts.{IsGuestStep, seat_of}
 use Rattle.session.specs.Lanes.{Stands}
 use Rattle.session.proofs.LanePartLemmas.{both_control, plans_lane, run_set, stands_free, step_more}
 use Rattle.session.proofs.plan.plan_lane.Goals as goal
 use Rattle.controller.proofs.PairLemmas.{pair_more, pair_stepped, with_here, with_same}
+use Rattle.turns.specs.Parts.{Leads}
 
 -- what the guest's steps left
 steps : (c : goal.After-push_fetches) → IsGuestStep c.args.script.now c.args.run.now.script.lane (seat_of c.args.run.now c.args.controller.now c.args.window.now) (seat_of c.do_acts.new.run c.do_acts.new.controller c.do_acts.new.window)

@@ -2,8 +2,8 @@ use Rattle.std.proofs.Common.{List, ◌++◌, ◌∷◌, [], sym, ap, subst, ref
 use Rattle.nvm_model.specs.declared.line.Line.{Line}
 use Rattle.nvm_model.specs.World.{set_of}
 use Rattle.lanes.specs.Guest.{GuestState}
-use Rattle.turns.specs.Parts.{ReapsSome}
-use Rattle.session.specs.LaneParts.{Leads, StandsFree, seat_of}
+use Rattle.turns.specs.Parts.{ReapsSome, Leads}
+use Rattle.session.specs.LaneParts.{StandsFree, seat_of}
 use Rattle.session.proofs.LanePartLemmas.{guest_step, reap_none, reap_some, run_set}
 use Rattle.session.proofs.plan.reap.Goals as goal
 use Rattle.controller.proofs.PairLemmas.{pair_stepped, rung_commands}

@@ -1,7 +1,7 @@
 use Rattle.std.proofs.Common.{◌∙◌, arith, refl, sym}
 use Rattle.std.proofs.lemmas.Bool.{false≢true}
-use Rattle.turns.proofs.PartLaws.{reaps_more, reaps_none}
-use Rattle.session.proofs.LanePartLemmas.{leads_more, leads_none, reaps_end, run_set, step_more, step_none}
+use Rattle.turns.proofs.PartLaws.{reaps_more, reaps_none, leads_none, leads_more}
+use Rattle.session.proofs.LanePartLemmas.{reaps_end, run_set, step_more, step_none}
 use Rattle.session.proofs.plan.reap_all.Goals as goal
 
 pub loop-turn-init : goal.loop-turn-init

@@ -1,7 +1,7 @@
 use Rattle.std.proofs.Common.{◌≡◌, ◌+◌, true, vec_len, vec_capacity}
 use Rattle.nvm_model.specs.World.{Lane}
-use Rattle.turns.specs.Parts.{ReapsSome}
-use Rattle.session.specs.LaneParts.{IsGuestStep, Leads, StandsFree, seat_of}
+use Rattle.turns.specs.Parts.{ReapsSome, Leads}
+use Rattle.session.specs.LaneParts.{IsGuestStep, StandsFree, seat_of}
 use Rattle.session.proofs.plan.reap_all.Given as goal
 
 abbrev pub invariant-loop-turn : goal.invariant-loop-turn

@@ -2,9 +2,8 @@ use Rattle.std.proofs.Common.{◌≡◌, ◌∙◌, ◌<◌, [], refl, arith}
 use Rattle.mig_base.proofs.ListLemmas.{element_at}
 use Rattle.controller.specs.Pair.{pair_of}
 use Rattle.session.specs.declared.lane_run.LaneRun.{LaneRun}
-use Rattle.turns.proofs.PartLaws.{none_yet}
-use Rattle.session.proofs.LanePartLemmas.{leads_none}
-use Rattle.session.proofs.AllLanesLemmas.{PostedTo, all_led, led_more, more_more, posted_more, put_here, run_here, seat_at, seat_put}
+use Rattle.turns.proofs.PartLaws.{none_yet, leads_none, all_led}
+use Rattle.session.proofs.AllLanesLemmas.{PostedTo, led_more, more_more, posted_more, put_here, run_here, seat_at, seat_put}
 use Rattle.session.proofs.WorkLemmas.{may_post}
 use Rattle.session.proofs.posts.post_all.Goals as goal
 
@@ -47,7 +46,9 @@ loop-at-preserved g c =
     }
 
 pub returns-clause-leads : goal.returns-clause-leads
-returns-clause-leads g c = λ lanes stands. all_led stands.count (omega arith) (c.loop-at.invariant.leads lanes stands)
+returns-clause-leads g c = λ lanes stands.
+    let led = c.loop-at.invariant.leads lanes stands in
+    all_led led (omega (arith, stands.count)) (omega (arith, led.stands.count))
 
 pub returns-clause-rests : goal.returns-clause-rests
 returns-clause-rests g c =

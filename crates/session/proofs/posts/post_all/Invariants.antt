@@ -3,10 +3,10 @@ use Rattle.nvm_model.specs.Turn.{PostsAll}
 use Rattle.nvm_model.specs.World.{Lane}
 use Rattle.controller.specs.Pair.{pair_of}
 use Rattle.session.specs.declared.lane_run.LaneRun.{LaneRun}
-use Rattle.session.specs.LaneParts.{HasMore, Leads}
+use Rattle.session.specs.LaneParts.{HasMore}
 use Rattle.session.specs.Phases.{Fit}
 use Rattle.session.specs.Place.{StandsFor}
-use Rattle.turns.specs.Parts.{SoFar}
+use Rattle.turns.specs.Parts.{SoFar, Leads}
 use Rattle.session.proofs.AllLanesLemmas.{PostedTo}
 use Rattle.session.proofs.posts.post_all.Given as goal
 

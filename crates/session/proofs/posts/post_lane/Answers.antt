@@ -1,18 +1,17 @@
-use Rattle.std.proofs.Common.{◌∙◌, [], arith, rules, ◌++◌, List, ℕ, length, map, sum, ap, sym, refl, subst}
-use Rattle.std.proofs.lemmas.List.{length-append, length-map}
+use Rattle.std.proofs.Common.{◌∙◌, [], arith, rules, ◌++◌, List, ℕ, length, map, sum, ap, sym, refl, subst, ◌≡◌}
 use Rattle.nvm_values.specs.Status.{StatusPair}
 use Rattle.nvm_model.specs.declared.line.Line.{Line}
 use Rattle.nvm_model.specs.declared.piece.PieceResult.{PieceResult}
 use Rattle.nvm_model.specs.Turn.{PostsAll}
 use Rattle.nvm_model.specs.World.{set_of}
-use Rattle.controller.specs.Pair.{ended, outcomes_of, pair_of, post_line, told_post, worked}
-use Rattle.controller.proofs.StepLemmas.{HasKept, posted_few, posts_kept}
-use Rattle.session.specs.LaneParts.{Leads}
+use Rattle.controller.specs.Pair.{outcomes_of, pair_of, post_line, worked}
+use Rattle.controller.proofs.StepLemmas.{posted_few, posts_kept}
 use Rattle.session.specs.Lanes.{Stands}
 use Rattle.session.proofs.LanePartLemmas.{posts_lane, run_set, stands_control}
 use Rattle.session.proofs.posts.post_lane.Goals as goal
 use Rattle.controller.proofs.PairLemmas.{pair_stepped}
 use Rattle.controller.proofs.NextLemmas.{pieces_told}
+use Rattle.turns.specs.Parts.{Leads}
 
 pub finish_turn-requires-clause-results : goal.finish_turn-requires-clause-results
 finish_turn-requires-clause-results c =
@@ -21,31 +20,22 @@ finish_turn-requires-clause-results c =
     ap length c.as_slice.ensures.value ∙ c.requires.may.done ∙ pieces_told k s.head.shelf s.head.blocks (set_of s.head k).pages (pair_of c.args.controller.now k).commands c.requires.may.checked
     ∙ sym (ap (λ (fs : List (ℕ × StatusPair × ℕ)). sum (map (λ (f : ℕ × StatusPair × ℕ). f.2) fs)) c.requires.may.told)
 
--- what the posts left of the pair and of the window
-kept : (c : goal.After-push_posts) → HasKept (map told_post (ended (pair_of c.args.controller.now c.args.run.now.script.lane).commands (pair_of c.args.controller.now c.args.run.now.script.lane).fetched (outcomes_of c.as_slice.result.now)))
-    (record (pair_of c.args.controller.now c.args.run.now.script.lane) { commands = []; fetched = []; posted = [] }) c.args.window.now (pair_of c.finish_turn.new.self c.args.run.now.script.lane) c.finish_turn.new.w
-kept c = posts_kept c.args.run.now.script.lane _ _ _ c.args.window.now c.finish_turn.new.w c.finish_turn.ensures.step.step
+-- no command is left
+none : (c : goal.After-push_posts) → (pair_of c.finish_turn.new.self c.args.run.now.script.lane).commands ≡ []
+none c = (posts_kept c.args.run.now.script.lane _ _ _ c.args.window.now c.finish_turn.new.w c.finish_turn.ensures.step.step).commands
 
 pub push_posts-requires : goal.push_posts-requires
 push_posts-requires c =
     let k = c.args.run.now.script.lane in
     let few = posted_few k c.as_slice.result.now (pair_of c.args.controller.now k) (pair_of c.finish_turn.new.self k) c.args.window.now c.finish_turn.new.w c.finish_turn.ensures.step.step in
-    let told = ap (λ (ps : List (ℕ × StatusPair)). length ps) c.posted.ensures in
-    omega (arith, few, told, c.requires.may.few, c.requires.head.burst.1, c.requires.room)
+    omega (arith, few, ap (λ (ps : List (ℕ × StatusPair)). length ps) c.posted.ensures, c.requires.may.few, c.requires.head.burst.1, c.requires.room)
 
 pub returns-clause-more : goal.returns-clause-more
 returns-clause-more c =
     let k = c.args.run.now.script.lane in
     let few = posted_few k c.as_slice.result.now (pair_of c.args.controller.now k) (pair_of c.finish_turn.new.self k) c.args.window.now c.finish_turn.new.w c.finish_turn.ensures.step.step in
-    let told = ap (λ (ps : List (ℕ × StatusPair)). length ps) c.posted.ensures in
-    let pushed = ap length c.push_posts.ensures.events in
-    let count = length-append c.args.events.now.items (map (post_line k) c.posted.result.now) in
-    let posts = length-map c.posted.result.now (post_line k) in
-    record {
-      fewer = omega (arith, pushed, count);
-      few = omega (arith, few, told, pushed, count, posts, c.requires.may.few, c.requires.head.burst.1);
-      capacity = search rules;
-    }
+    let more = c.push_posts.ensures.more in
+    record { fewer = more.fewer; few = omega (arith, more.few, few, ap (λ (ps : List (ℕ × StatusPair)). length ps) c.posted.ensures, c.requires.may.few, c.requires.head.burst.1); capacity = more.capacity }
 
 pub returns-clause-leads : goal.returns-clause-leads
 returns-clause-leads c = λ l stands.
@@ -56,7 +46,7 @@ returns-clause-leads c = λ l stands.
     let posts = c.finish_turn.ensures.posts.step s l (run_set c.requires.seat.run) c.requires.may.told (stands_control stands) running in
     let told = c.push_posts.ensures.events ∙ ap (λ (ts : List (ℕ × StatusPair)). c.args.events.now.items ++ map (post_line k) ts) c.posted.ensures in
     subst (λ (es : List Line). Leads (PostsAll s k) (Stands s k (record c.args.run.now { results = c.clear.new.self }) (pair_of c.finish_turn.new.self k) c.finish_turn.new.w) l c.args.events.now.items es) (sym told)
-    (posts_lane c.args.events.now.items stands refl refl posts (kept c).commands)
+    (posts_lane c.args.events.now.items stands refl refl posts (none c))
 
 pub returns-clause-rests : goal.returns-clause-rests
 returns-clause-rests c =
@@ -64,10 +54,10 @@ returns-clause-rests c =
     record {
       seat = record {
         run = record { script = run.script; lane = run.lane; guest = run.guest; few = run.few; room = omega (arith, run.room, c.clear.ensures.capacity) };
-        window = record { lane = (kept c).lane ∙ c.requires.seat.window.lane; size = (kept c).size ∙ c.requires.seat.window.size };
+        window = record { lane = c.finish_turn.ensures.window.0 ∙ c.requires.seat.window.lane; size = c.finish_turn.ensures.window.1 ∙ c.requires.seat.window.size };
         there = omega (arith, c.requires.seat.there, (pair_stepped c.finish_turn.ensures.step).count);
       };
-      commands = (kept c).commands;
+      commands = none c;
       results = search rules;
     }
 

@@ -1,7 +1,6 @@
 use Rattle.std.proofs.Common.{List, sym, ap, subst, ◌∙◌}
 use Rattle.nvm_model.specs.declared.line.Line.{Line}
 use Rattle.nvm_model.specs.Turn.{InLanes, Plans}
-use Rattle.session.specs.LaneParts.{Leads}
 use Rattle.session.specs.Place.{StandsFor, machine, PlaceState}
 use Rattle.session.proofs.TurnLemmas.{Phases, less_after, ready_after, turn_by_phases}
 use Rattle.session.proofs.WorkLemmas.{none_is_left}
@@ -10,6 +9,7 @@ use Rattle.session.proofs.turn.do_turn.Goals as goal
 use Rattle.nvm_model.specs.World.{Lane}
 use Rattle.nvm_blocks.specs.Namespace.{NamespaceState, media_of}
 use Rattle.session.proofs.EntryLemmas.{plan_cleared, plan_within}
+use Rattle.turns.specs.Parts.{Leads}
 
 -- what the phases came to
 phases : (g : Over) → (c : goal.After-post_all g) → Phases g.M.Medium.state g.M.Medium.moves c.args.script.now (machine c.args.runs.now.items c.args.order.now c.args.place.now) (machine c.post_all.new.runs.items c.do_pieces.new.order c.post_all.new.place) c.post_all.new.events.items

@@ -4,7 +4,7 @@ use Rattle.std.proofs.lemmas.List.{get_or_read}
 use Rattle.nvm_model.specs.declared.piece.Piece.{Piece}
 use Rattle.nvm_blocks.specs.Namespace.{block_count, entries_at}
 use Rattle.nvm_blocks.proofs.NamespaceLaws.{cleared_at, entries_cleared, entries_more, entries_same, none_at, same_count}
-use Rattle.session.proofs.place.clear_under.Goals as goal
+use Rattle.nvm_blocks.proofs.clearing.clear_under.Goals as goal
 
 pub loop-piece-init : goal.loop-piece-init
 loop-piece-init g c = record { kept = entries_same c.args.namespace.now; cleared = λ i d none. absurd (omega (arith, none)) }

@@ -1,7 +1,7 @@
 use Rattle.std.proofs.Common.{◌≡◌, ◌<◌, ℕ, [], get_or}
 use Rattle.nvm_model.specs.declared.piece.Piece.{Piece}
 use Rattle.nvm_blocks.specs.Namespace.{IsSameButEntries, entries_at}
-use Rattle.session.proofs.place.clear_under.Given as goal
+use Rattle.nvm_blocks.proofs.clearing.clear_under.Given as goal
 
 abbrev pub invariant-loop-piece : goal.invariant-loop-piece
 invariant-loop-piece g l = record {
