@@ -1,0 +1,4 @@
+pub mod Admin
+pub mod Entries
+pub mod Parts
+pub mod Rings

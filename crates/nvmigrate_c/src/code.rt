@@ -1,0 +1,26 @@
+// What a call answers. The header has the same numbers.
+
+/// Done.
+pub const OK: u32 = 0;
+/// There is none: the ring is empty, or the image isn't whole.
+pub const NONE: u32 = 1;
+/// The ring or the queue has no free place.
+pub const FULL: u32 = 2;
+/// The doorbell, or the place that was told, doesn't take this value.
+pub const BAD_DOORBELL: u32 = 3;
+/// The numbers of the struct aren't those of a ring.
+pub const BAD_RING: u32 = 4;
+/// A number of the struct is out of its range.
+pub const BAD_FIELD: u32 = 5;
+/// Byte 0 is the opcode of no admin command.
+pub const BAD_OPCODE: u32 = 6;
+/// Byte 40 is the selector of no command of this opcode.
+pub const BAD_SELECT: u32 = 7;
+/// A part of an image begins neither at byte 0 nor where the bytes fed end.
+pub const BAD_SEQUENCE: u32 = 8;
+/// A part passes the image's end, or there is more than is taken.
+pub const TOO_LONG: u32 = 9;
+/// No image goes on with the byte that is told.
+pub const BAD_IMAGE: u32 = 10;
+/// The struct isn't one of parts that were fed.
+pub const BAD_PARTS: u32 = 11;

@@ -1,0 +1,126 @@
+// The image of a controller's state, in parts and whole.
+ghost use Rattle.std.specs.Prelude.{◌≡◌, ◌≢◌, ◌+◌, ◌-◌, ◌*◌, ◌<◌, ◌≤◌, ◌++◌, [], All, MatchOption, drop, length, replicate, take};
+ghost use Rattle.ctl_state.specs.declared.image.Image.{Image as TheImage};
+ghost use Rattle.ctl_state.specs.Image.{image_bytes};
+ghost use Rattle.ctl_state.specs.Parts.{Feeds, IsWhole};
+ghost use Rattle.nvmigrate_c.specs.Parts.{IsPair, IsParts, feed_told, image_in, pair_in, parts_in, state_of};
+
+use crate::code::{BAD_FIELD, BAD_IMAGE, BAD_PARTS, BAD_SEQUENCE, NONE, OK, TOO_LONG};
+use crate::completion::Cq;
+use crate::entry::flag;
+use crate::ring::Sq;
+use ctl_state::{Image, PairState, PartRefusal};
+
+/// A controller's part of a queue pair: its two ends.
+#[repr(C)]
+#[derive(Clone, Copy)]
+pub struct Pair {
+    pub sq: Sq,
+    pub cq: Cq,
+}
+
+/// An image that comes in parts, of from 1 to 8 queue pairs: how many bytes of it were fed, and which.
+#[repr(C)]
+#[derive(Clone, Copy)]
+pub struct Parts {
+    pub fed: u32,
+    pub lanes: u8,
+    pub bytes: [u8; 264],
+}
+
+impl Parts {
+    /// No byte is fed of an image of so many pairs.
+    fn empty(lanes: u8) -> Parts
+        requires { (1 ≤ lanes) × (lanes ≤ 8) }
+        ensures value { parts_in result ≡ record { lanes = lanes; bytes = [] } }
+        ensures sound { IsParts result }
+    {
+        Parts {
+            fed: 0,
+            lanes,
+            bytes: [0; 264],
+        }
+    }
+
+    /// The parts for the library; `None` exactly where no image of so many pairs begins with the bytes.
+    fn library(&self) -> Option<ctl_state::Parts>
+        ensures { MatchOption result (IsParts self.now → ⊥) (λ p. IsParts self.now × (p ≡ parts_in self.now)) }
+    {
+        if self.lanes == 0 || self.lanes > 8 || self.fed > 264 {
+            return None;
+        }
+        let mut parts = ctl_state::Parts::new(self.lanes);
+        let Ok(()) = parts.feed(0, &self.bytes[..self.fed as usize]) else {
+            return None;
+        };
+        Some(parts)
+    }
+}
+
+/// No byte is fed of an image of so many pairs, from 1 to 8.
+///
+/// # Errors
+///
+/// `BAD_PARTS` exactly where there are fewer or more; `out` stays as it was.
+#[unsafe(no_mangle)]
+pub extern "C" fn nvmigrate_parts_new(lanes: u8, out: &mut Parts) -> u32
+    ensures done { 1 ≤ lanes → lanes ≤ 8 → result ≡ OK }
+    ensures few { lanes ≡ 0 → result ≡ BAD_PARTS }
+    ensures many { 8 < lanes → result ≡ BAD_PARTS }
+    ensures value { result ≡ OK → parts_in out.new ≡ record { lanes = lanes; bytes = [] } }
+    ensures sound { result ≡ OK → IsParts out.new }
+    ensures same { result ≢ OK → out.new ≡ out.old }
+{
+    if lanes == 0 || lanes > 8 {
+        return BAD_PARTS;
+    }
+    *out = Parts::empty(lanes);
+    OK
+}
+
+/// Takes the part of the image that begins at byte `offset`: where the bytes fed end, or at byte 0, where a part begins
+/// anew.
+///
+/// # Errors
+///
+/// `BAD_PARTS` exactly where the struct is none of parts that were fed; it stays as it was. Else, in this order:
+/// `BAD_SEQUENCE` exactly where the part begins elsewhere; then nothing changes. `TOO_LONG` exactly where it passes the
+/// image's end, `BAD_IMAGE` exactly where no image goes on with it, with the first such place; then the bytes fed before
+/// stay, but none where the part began anew.
+#[unsafe(no_mangle)]
+pub extern "C" fn nvmigrate_parts_feed(parts: &mut Parts, offset: u32, part: &[u8], place: &mut u32) -> u32
+    ensures bad { (IsParts parts.old → ⊥) → (result ≡ BAD_PARTS) × (parts.new ≡ parts.old) }
+    ensures fed { IsParts parts.old → MatchOption (feed_told result place.new) ⊥
+        (λ r. Feeds offset part.now r (parts_in parts.old) (parts_in parts.new)) }
+    ensures sound { IsParts parts.old → IsParts parts.new }
+    ensures place { result ≢ BAD_IMAGE → place.new ≡ place.old }
+{
+    let Some(mut fed) = parts.library() else {
+        return BAD_PARTS;
+    };
+    match fed.feed(offset, part) {
+        Ok(()) => {
+            put(&mut parts.bytes, offset as usize, part);
+            parts.fed = fed.fed();
+            OK
+        }
+        Err(PartRefusal::BadSequence) => BAD_SEQUENCE,
+        Err(PartRefusal::TooLong) => {
+            parts.fed = fed.fed();
+            TOO_LONG
+        }
+        Err(PartRefusal::BadImage { place: at }) => {
+            parts.fed = fed.fed();
+            *place = at;
+            BAD_IMAGE
+        }
+    }
+}
+
+/// Writes a part from that byte on. The other bytes stay.
+fn put(bytes: &mut [u8; 264], from: usize, part: &[u8])
+    requires { from + length part.now ≤ 264 }
+    ensures { bytes.new ≡ take from bytes.old ++ part.now ++ drop (from + length part.now) bytes.old }
+{
+    bytes[from..from + part.len()].copy_from_slice(part);
+}
