@@ -1,5 +1,5 @@
 -- What C keeps of an image in parts stands for the library's parts.
-use Rattle.std.proofs.Common.{◌≡◌, ℕ, suc, zero, ◌+◌, ◌≤◌, Bool, Ok, Err, List, [], ◌++◌, append_assoc, cond, length, take, drop, ap, ◌∙◌, sym, subst, refl, arith, length-append}
+use Rattle.std.proofs.Common.{◌≡◌, ℕ, suc, zero, ◌+◌, ◌<◌, ◌≤◌, Bool, Result, Ok, Err, List, [], ◌++◌, append_assoc, cond, length, take, drop, ap, ◌∙◌, sym, subst, refl, arith, length-append}
 use Rattle.std.proofs.lemmas.Bool.{ne_eqb}
 use Rattle.std.proofs.lemmas.List.{length-take, length-take-le, take_at}
 use Rattle.ctl_state.specs.declared.image.Image.{Image}
@@ -73,3 +73,21 @@ fed_goes p offset fed part bytes old new room is feeds count made parts =
     = subst (λ (s : PartsState). Feeds offset part (Ok tt) (parts_in p) s) now (subst (λ (s : PartsState). Feeds offset part (Ok tt) s new) is feeds) in
     let most = begun_size p.lanes (take fed bytes) goes.2 in
     (goes, record { some = parts.some; few = parts.few; fed = omega (arith, most, count, ap length same); begin = goes.2 })
+
+-- A part of more bytes than any image has is refused as its first bytes are.
+pub long_part : (offset : ℕ) (part : List ℕ) (r : Result (Unit {0}) PartRefusal) (old new : PartsState) → old.lanes ≤ 8 → 265 < length part → Feeds offset (take 265 part) r old new → Feeds offset part r old new
+long_part offset part (Ok x) old new few long feeds =
+    let size : length new.bytes ≡ offset + length (take 265 part)
+    = ap (λ (s : PartsState). length s.bytes) feeds.1 ∙ length-append (kept offset old.bytes) (take 265 part) ∙ ap (λ n. n + length (take 265 part)) feeds.0 in
+    let most = begun_size old.lanes new.bytes feeds.2 in
+    let first = length-take-le 265 part (omega arith) in
+    absurd (omega (arith, size, most, first, few))
+long_part offset part (Err BadSequence) old new few long feeds = feeds
+long_part offset part (Err TooLong) old new few long feeds =
+    let first = length-take-le 265 part (omega arith) in
+    let over = feeds.1 in
+    (feeds.0, omega (arith, first, over), feeds.2)
+long_part offset part (Err (BadImage place)) old new few long feeds =
+    let first = length-take-le 265 part (omega arith) in
+    let within = feeds.1 in
+    absurd (omega (arith, first, within, few))

@@ -25,8 +25,8 @@ pub record IsParts (p : Parts) : Type 0 where
 abbrev pub pair_in : Pair → PairState
 pair_in p = record { sq = sq_in p.sq; cq = (cq_in p.cq).ring; phase = p.cq.phase == 1 }
 
--- both ends are those of a controller
-pub record IsPair (p : Pair) : Type 0 where
+-- both ends are rings
+pub record HasRings (p : Pair) : Type 0 where
   pub sq : IsSq p.sq
   pub cq : IsCq p.cq
 

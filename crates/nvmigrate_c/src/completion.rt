@@ -38,17 +38,23 @@ impl Cq {
     fn of(ring: &CqRing) -> Cq
         ensures { cq_in result ≡ ring.now }
     {
-        let places = ring.state();
+        Cq::at(ring.state(), ring.phase())
+    }
+
+    /// The end at these places, whose next entry has that phase tag, for C.
+    pub(crate) fn at(places: RingState, phase: bool) -> Cq
+        ensures { cq_in result ≡ record { ring = places; phase = phase } }
+    {
         Cq {
             size: places.size,
             head: places.head,
             tail: places.tail,
-            phase: flag(ring.phase()),
+            phase: flag(phase),
         }
     }
 
     /// The controller's end at these places; `None` exactly where they are none.
-    fn controller(self) -> Option<CqRing>
+    pub(crate) fn controller(self) -> Option<CqRing>
         ensures { MatchOption result (IsCq self → ⊥) (λ r. IsCq self × (r ≡ cq_in self)) }
     {
         let ring = RingState {

@@ -34,7 +34,7 @@ impl Sq {
         }
     }
 
-    pub(crate) fn state(self) -> RingState
+    fn state(self) -> RingState
         ensures { result ≡ sq_in self }
     {
         RingState {
@@ -45,7 +45,7 @@ impl Sq {
     }
 
     /// The controller's end at these places; `None` exactly where they are none.
-    fn controller(self) -> Option<SqRing>
+    pub(crate) fn controller(self) -> Option<SqRing>
         ensures { MatchOption result (IsSq self → ⊥) (λ r. IsSq self × (r ≡ sq_in self)) }
     {
         let ring = self.state();
