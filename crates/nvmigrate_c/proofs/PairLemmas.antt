@@ -1,5 +1,5 @@
 -- C's pairs stand for the library's.
-use Rattle.std.proofs.Common.{◌≡◌, ℕ, suc, zero, ◌+◌, ◌-◌, ◌<◌, ◌≤◌, All, List, [], ◌∷◌, ◌++◌, append_assoc, length, map, replicate, take, drop, slice_index_or, slice_set, ap, ◌∙◌, refl, sym, subst, arith, length-append}
+use Rattle.std.proofs.Common.{◌≡◌, ℕ, suc, zero, ◌+◌, ◌-◌, ◌<◌, ◌≤◌, All, List, [], ◌∷◌, ◌++◌, append_assoc, length, map, replicate, take, slice_index_or, slice_set, ap, ◌∙◌, refl, sym, subst, arith, length-append}
 use Rattle.std.proofs.lemmas.List.{drop_at, length-map, length-replicate, length-take-le, map-append, take_at, take_more, take_more_set}
 use Rattle.std.proofs.lemmas.List.Elements.{All-push}
 use Rattle.std.proofs.Math.Seq.{set-append_seam}

@@ -1,13 +1,12 @@
 -- What C keeps of an image in parts stands for the library's parts.
-use Rattle.std.proofs.Common.{◌≡◌, ℕ, suc, zero, ◌+◌, ◌<◌, ◌≤◌, Bool, Result, Ok, Err, List, [], ◌++◌, append_assoc, cond, length, take, drop, ap, ◌∙◌, sym, subst, refl, arith, length-append}
+use Rattle.std.proofs.Common.{◌≡◌, ℕ, suc, zero, ◌+◌, ◌<◌, ◌≤◌, Bool, Result, Ok, Err, List, [], ◌++◌, cond, length, take, drop, ap, ◌∙◌, sym, subst, refl, arith, length-append}
 use Rattle.std.proofs.lemmas.Bool.{ne_eqb}
 use Rattle.std.proofs.lemmas.List.{length-take, length-take-le, take_at}
-use Rattle.ctl_state.specs.declared.image.Image.{Image}
 use Rattle.ctl_state.specs.declared.parts.PartRefusal.{PartRefusal}
 use Rattle.ctl_state.specs.declared.parts.PartRefusal.TheVariants.{BadSequence, TooLong, BadImage}
 use Rattle.ctl_state.specs.Image.{image_bytes}
 use Rattle.ctl_state.specs.Parts.{Begins, Feeds, PartsState, image_size, kept}
-use Rattle.ctl_state.proofs.ImageLemmas.{begins, image_taken, whole_size}
+use Rattle.ctl_state.proofs.ImageLemmas.{begins, whole_size}
 use Rattle.nvmigrate_c.specs.declared.parts.Parts.{Parts}
 use Rattle.nvmigrate_c.specs.Parts.{IsParts, parts_in}
 

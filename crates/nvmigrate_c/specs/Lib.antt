@@ -1,4 +1,6 @@
 pub mod Admin
 pub mod Entries
+pub mod Judged
+pub mod Layout
 pub mod Parts
 pub mod Rings

@@ -1,5 +1,4 @@
 use Rattle.std.specs.Prelude.{ℕ, ◌-◌, ◌≤◌, ◌==◌, List, ◌++◌, Option, Some, None, Result, Ok, Err, if◌then◌else◌, length, map, replicate, take}
-use Rattle.nvm_ring.specs.Places.{IsRing}
 use Rattle.ctl_state.specs.declared.image.Image.{Image}
 use Rattle.ctl_state.specs.declared.image.PairState.{PairState}
 use Rattle.ctl_state.specs.declared.parts.PartRefusal.{PartRefusal}

@@ -24,3 +24,13 @@ pub const TOO_LONG: u32 = 9;
 pub const BAD_IMAGE: u32 = 10;
 /// The struct isn't one of parts that were fed.
 pub const BAD_PARTS: u32 = 11;
+/// There is no memory.
+pub const OUT_OF_MEMORY: u32 = 12;
+/// The text doesn't begin with a script.
+pub const BAD_SCRIPT: u32 = 13;
+/// A line of the transcript isn't the form of a line that may come there.
+pub const WRONG_FORM: u32 = 14;
+/// A line of the transcript is an event that isn't legal where it stands.
+pub const WRONG_LEGAL: u32 = 15;
+/// The transcript ends, and some lane isn't complete.
+pub const WRONG_COMPLETE: u32 = 16;

@@ -6,5 +6,7 @@ mod admin;
 mod code;
 mod completion;
 mod entry;
+mod judging;
+mod layout;
 mod parts;
 mod ring;

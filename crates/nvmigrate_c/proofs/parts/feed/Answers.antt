@@ -1,4 +1,4 @@
-use Rattle.std.proofs.Common.{◌≡◌, arith, length, sym, take}
+use Rattle.std.proofs.Common.{arith, sym}
 use Rattle.std.proofs.lemmas.List.{length-take-le}
 use Rattle.nvmigrate_c.proofs.PartsLemmas.{long_part}
 use Rattle.nvmigrate_c.proofs.parts.feed.Goals as goal

@@ -1,4 +1,4 @@
-use Rattle.std.proofs.Common.{◌≡◌, ◌∙◌, ◌≤◌, ap, arith, map, length, sym}
+use Rattle.std.proofs.Common.{◌∙◌, ap, arith, map, sym}
 use Rattle.std.proofs.lemmas.List.{length-set, take_all}
 use Rattle.nvmigrate_c.specs.Parts.{pair_in}
 use Rattle.nvmigrate_c.proofs.PairLemmas.{put_more}

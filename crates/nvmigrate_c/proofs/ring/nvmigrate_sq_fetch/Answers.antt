@@ -1,4 +1,4 @@
-use Rattle.std.proofs.Common.{◌≡◌, ◌∙◌}
+use Rattle.std.proofs.Common.{◌∙◌}
 use Rattle.nvmigrate_c.proofs.ring.nvmigrate_sq_fetch.Goals as goal
 
 pub returns-clause-entry : goal.returns-clause-entry

@@ -1,0 +1,158 @@
+/* Numbers, bytes, lengths and doorbell values of every kind: each call answers a code of the header, and leaves what it
+ * refuses as it was. The numbers come from SplitMix64, half of them near the bounds. */
+#include <nvmigrate.h>
+#include <stdio.h>
+#include <stdlib.h>
+#include <string.h>
+
+static uint64_t seed = 1;
+
+static uint64_t word(void) {
+    uint64_t z = seed += 0x9e3779b97f4a7c15u;
+    z = (z ^ z >> 30) * 0xbf58476d1ce4e5b9u;
+    z = (z ^ z >> 27) * 0x94d049bb133111ebu;
+    return z ^ z >> 31;
+}
+
+static uint64_t number(void) {
+    static const uint64_t near[] = {0, 1, 2, 3, 7, 8, 9, 63, 64, 65, 255, 256, 257, 264, 265, 4095, 4096, 65535, UINT32_MAX};
+    uint64_t w = word();
+    return w & 1 ? w >> 8 : near[(w >> 8) % (sizeof near / sizeof *near)];
+}
+
+static void fill(void *at, size_t size) {
+    unsigned char *bytes = at;
+    for (size_t i = 0; i < size; i++)
+        bytes[i] = (unsigned char)number();
+}
+
+static unsigned long calls, codes[16];
+
+static void answered(uint32_t code, const char *what) {
+    calls++;
+    if (code > NVMIGRATE_BAD_PARTS) {
+        printf("%s answered %u\n", what, code);
+        exit(1);
+    }
+    codes[code]++;
+}
+
+static void kept(uint32_t code, const void *old, const void *new, size_t size, const char *what) {
+    if (code != NVMIGRATE_OK && memcmp(old, new, size) != 0) {
+        printf("%s wrote and answered %u\n", what, code);
+        exit(1);
+    }
+}
+
+#define CALL(name, state, ...)                                  \
+    do {                                                        \
+        memcpy(&old, &state, sizeof state);                     \
+        uint32_t code = name(__VA_ARGS__);                      \
+        answered(code, #name);                                  \
+        kept(code, &old, &state, sizeof state, #name);          \
+    } while (0)
+
+static uint8_t page[4096], bytes[264];
+
+static void rings(void) {
+    union { struct nvmigrate_sq sq; struct nvmigrate_cq cq; struct nvmigrate_guest_cq guest_cq; } old;
+    struct nvmigrate_sq sq = {number(), number(), number()};
+    struct nvmigrate_cq cq = {number(), number(), number(), number()};
+    struct nvmigrate_guest_cq guest_cq = {number(), number(), number()};
+    struct nvmigrate_sqe sqe;
+    struct nvmigrate_cqe cqe;
+    uint16_t count;
+    fill(page, sizeof page);
+    fill(&sqe, sizeof sqe);
+    fill(&cqe, sizeof cqe);
+    if (word() % 4) {
+        sq.size = word() % 63 + 2, sq.head = word() % sq.size, sq.tail = word() % sq.size;
+        cq.size = word() % 255 + 2, cq.head = word() % cq.size, cq.tail = word() % cq.size, cq.phase = word() % 2;
+        guest_cq.size = word() % 255 + 2, guest_cq.head = word() % guest_cq.size, guest_cq.phase = word() % 2;
+    }
+    CALL(nvmigrate_sq_set_tail, sq, &sq, number());
+    CALL(nvmigrate_sq_fetch, sq, &sq, page, &sqe);
+    CALL(nvmigrate_guest_sq_submit, sq, &sq, page, &sqe);
+    CALL(nvmigrate_guest_sq_learn, sq, &sq, number());
+    CALL(nvmigrate_cq_free, cq, &cq, &count);
+    CALL(nvmigrate_cq_post, cq, &cq, page, &cqe);
+    cqe.phase %= 2, cqe.sct %= 8, cqe.crd %= 4, cqe.more %= 2, cqe.dnr %= 2;
+    CALL(nvmigrate_cq_post, cq, &cq, page, &cqe);
+    CALL(nvmigrate_cq_set_head, cq, &cq, number());
+    CALL(nvmigrate_guest_cq_reap, guest_cq, &guest_cq, page, &cqe);
+    CALL(nvmigrate_sq_new, sq, number(), &sq);
+    CALL(nvmigrate_cq_new, cq, number(), &cq);
+    CALL(nvmigrate_guest_cq_new, guest_cq, number(), &guest_cq);
+}
+
+/* 64 bytes are an entry and its bytes again; 16 are a completion; a command is read back. */
+static void entries(void) {
+    struct nvmigrate_sqe sqe;
+    struct nvmigrate_cqe cqe;
+    struct nvmigrate_admin admin = {number(), number() % 10, number(), number(), number(), number(), number(), number()}, old;
+    uint8_t in[64], out[64] = {0}, place;
+    fill(in, sizeof in);
+    nvmigrate_sqe_from_bytes(in, &sqe);
+    nvmigrate_sqe_to_bytes(&sqe, out);
+    answered(memcmp(in, out, 64) != 0 ? 99 : NVMIGRATE_OK, "sqe_to_bytes");
+    nvmigrate_cqe_from_bytes(in, &cqe);
+    answered(nvmigrate_cqe_to_bytes(&cqe, out), "cqe_to_bytes");
+    answered(memcmp(in, out, 16) != 0 ? 99 : NVMIGRATE_OK, "cqe_to_bytes");
+    fill(&cqe, sizeof cqe);
+    answered(nvmigrate_cqe_to_bytes(&cqe, out), "cqe_to_bytes");
+    CALL(nvmigrate_admin_from_bytes, admin, in, &admin, &place);
+    uint32_t code = nvmigrate_admin_to_bytes(&admin, out);
+    answered(code, "admin_to_bytes");
+    if (code == NVMIGRATE_OK)
+        answered(nvmigrate_admin_from_bytes(out, &admin, &place) != NVMIGRATE_OK ? 99 : NVMIGRATE_OK, "admin_from_bytes");
+    if (code == NVMIGRATE_OK) { /* and with one byte of it spoilt */
+        out[word() % 64] ^= 1u << word() % 8;
+        CALL(nvmigrate_admin_from_bytes, admin, out, &admin, &place);
+    }
+}
+
+static void images(void) {
+    struct nvmigrate_parts parts, old;
+    struct nvmigrate_pair pairs[9];
+    uint32_t length = 0, place;
+    size_t used = word() % 9;
+    for (size_t i = 0; i < 9; i++) {
+        pairs[i] = (struct nvmigrate_pair){{word() % 63 + 2, 1, 0}, {word() % 255 + 2, 0, 1, word() % 2}};
+        if (word() % 64 == 0)
+            pairs[i].sq.tail = number();
+    }
+    answered(nvmigrate_image_encode(pairs, 9, bytes, &length), "image_encode");
+    answered(nvmigrate_image_encode(pairs, SIZE_MAX, bytes, &length), "image_encode");
+    answered(nvmigrate_image_encode(pairs, used, bytes, &length), "image_encode");
+    memset(&parts, 0, sizeof parts);
+    CALL(nvmigrate_parts_new, parts, used, &parts);
+    if (word() % 4 == 0)
+        bytes[word() % 264] = number();
+    for (uint32_t at = 0; at < length && parts.fed == at;) {
+        uint32_t count = word() % 40 + 1;
+        count = length - at < count ? length - at : count;
+        answered(nvmigrate_parts_feed(&parts, at, bytes + at, count, &place), "parts_feed");
+        answered(nvmigrate_parts_whole(&parts, pairs), "parts_whole");
+        at += count;
+    }
+    answered(nvmigrate_parts_feed(&parts, number(), bytes, number() % 265, &place), "parts_feed");
+    answered(nvmigrate_parts_feed(&parts, parts.fed, bytes, SIZE_MAX, &place), "parts_feed");
+    parts.fed = number(), parts.lanes = number();
+    CALL(nvmigrate_parts_feed, parts, &parts, 0, bytes, 0, &place);
+    fill(&parts, sizeof parts);
+    answered(nvmigrate_parts_feed(&parts, number(), bytes, 264, &place), "parts_feed");
+    answered(nvmigrate_parts_whole(&parts, pairs), "parts_whole");
+}
+
+int main(int argc, char **argv) {
+    unsigned long times = argc > 1 ? strtoul(argv[1], 0, 10) : 20000;
+    for (unsigned long i = 0; i < times; i++) {
+        rings();
+        entries();
+        images();
+    }
+    printf("%lu calls\n", calls);
+    for (int code = 0; code <= NVMIGRATE_BAD_PARTS; code++)
+        printf("code %d %s\n", code, codes[code] ? "came" : "never came");
+    return 0;
+}
