@@ -23,6 +23,16 @@ pub struct Places {
 }
 
 impl Places {
+    /// Those of a queue that isn't live.
+    pub const NONE: Places = Places {
+        head: 0,
+        next: 0,
+        waiting: 0,
+        phase: true,
+        marked: false,
+        live: false,
+    };
+
     /// A new queue with zeroed cells and no mark, unless one is live: answers false then.
     pub fn create(&mut self, cells: &mut [[u8; 32]]) -> bool
         requires { (2 ≤ length cells.old) × (length cells.old ≤ 65536) }
@@ -90,24 +100,24 @@ impl Places {
         Some(change)
     }
 
-    /// Takes all entries before a place of `size` cells.
+    /// Takes all entries before a place.
     ///
     /// # Errors
     ///
     /// `BadHead` exactly where that is no place from the head to the next place of posting, in ring order. Nothing changes
     /// then.
-    pub fn set_head(&mut self, size: u32, value: u32) -> Result<(), BadHead>
-        requires places { ArePlaces size self.old }
+    pub fn set_head(&mut self, cells: &[[u8; 32]], value: u32) -> Result<(), BadHead>
+        requires places { ArePlaces (length cells.now) self.old }
         requires live { self.old.live ≡ true }
-        ensures accepted { is_ok result
-            ≡ (nat_lt value size && nat_le (places_between size self.old.head value) self.old.waiting) }
+        ensures accepted { is_ok result ≡ (nat_lt value (length cells.now)
+            && nat_le (places_between (length cells.now) self.old.head value) self.old.waiting) }
         ensures refused { OnErr result (self.new ≡ self.old) }
         ensures kept { (self.new.marked ≡ self.old.marked) × (self.new.live ≡ true) }
-        ensures taken { OnOk result ((cells : List (List ℕ)) (posted : List Change) (taken : ℕ) → length cells ≡ size
-            → IsLog (queue_of self.old cells) posted taken
-            → IsLog (queue_of self.new cells) posted (taken + places_between size self.old.head value)) }
-        ensures sound { ArePlaces size self.new }
+        ensures taken { OnOk result ((posted : List Change) (taken : ℕ) → IsLog (queue_of self.old cells.now) posted taken
+            → IsLog (queue_of self.new cells.now) posted (taken + places_between (length cells.now) self.old.head value)) }
+        ensures sound { ArePlaces (length cells.now) self.new }
     {
+        let size = cells.len() as u32;
         if value >= size {
             return Err(BadHead { value });
         }
