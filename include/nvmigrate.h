@@ -40,10 +40,13 @@ enum nvmigrate_code {
     NVMIGRATE_BAD_IMAGE = 10,   /* no image goes on with the byte that is told */
     NVMIGRATE_BAD_PARTS = 11,   /* the struct isn't one of parts that were fed */
     NVMIGRATE_OUT_OF_MEMORY = 12,
-    NVMIGRATE_BAD_SCRIPT = 13,    /* the text doesn't begin with a script */
-    NVMIGRATE_WRONG_FORM = 14,    /* no whole transcript for the script has the lines up to the one that is told */
-    NVMIGRATE_WRONG_LEGAL = 15,   /* it is an event that isn't legal where it stands */
-    NVMIGRATE_WRONG_COMPLETE = 16 /* it is the last line, and some lane isn't complete */
+    NVMIGRATE_BAD_SCRIPT = 13,     /* the text doesn't begin with a script */
+    NVMIGRATE_WRONG_FORM = 14,     /* no whole transcript for the script has the lines up to the one that is told */
+    NVMIGRATE_WRONG_LEGAL = 15,    /* it is an event that isn't legal where it stands */
+    NVMIGRATE_WRONG_COMPLETE = 16, /* it is the last line, and some lane isn't complete */
+    NVMIGRATE_BAD_QUEUE = 17,      /* the struct isn't one of a queue of so many cells */
+    NVMIGRATE_NOT_LIVE = 18,       /* the queue wasn't created, or is deleted */
+    NVMIGRATE_LIVE = 19            /* the queue is live already */
 };
 
 /* ---- Entries ---------------------------------------------------------------------------------------------------- */
@@ -239,6 +242,55 @@ uint32_t nvmigrate_parts_whole(const struct nvmigrate_parts *parts, struct nvmig
  * where an end of one is no ring. */
 uint32_t nvmigrate_image_encode(const struct nvmigrate_pair *pairs, size_t count, uint8_t out[264], uint32_t *length);
 
+/* ---- A user data migration queue ---------------------------------------------------------------------------------- */
+
+/* The controller tells the host in it which blocks were written (5.1, Controller Data Queue; docs/FORMATS.md has an entry's
+ * 32 bytes). Its cells, 2 to 65,536 of 32 bytes, are the caller's, who passes them to each call. The places of the oldest
+ * entry that isn't taken and of the next one, how many lie between, the phase tag of the next one, whether an entry found no
+ * free cell, and whether the queue was created and isn't deleted. Numbers that aren't those of a queue of so many cells are
+ * NVMIGRATE_BAD_QUEUE, and a queue that isn't live is NVMIGRATE_NOT_LIVE, which each call tells before anything else. A struct of
+ * zeroes is one that isn't live. */
+struct nvmigrate_queue {
+    uint32_t head;
+    uint32_t next;
+    uint32_t waiting;
+    uint8_t phase;  /* 0 or 1 */
+    uint8_t marked; /* 0 or 1 */
+    uint8_t live;   /* 0 or 1 */
+};
+
+/* Blocks that were written: 1 to 64 of them, the first below 131,072. */
+struct nvmigrate_change {
+    uint32_t first;
+    uint32_t count;
+};
+
+/* The 32 bytes of an entry with a phase tag. NVMIGRATE_BAD_FIELD exactly where that is neither 0 nor 1. */
+uint32_t nvmigrate_change_to_bytes(const struct nvmigrate_change *change, uint8_t phase, uint8_t out[32]);
+
+/* The blocks that an entry of 32 bytes names, in range or not. */
+void nvmigrate_change_from_bytes(const uint8_t bytes[32], struct nvmigrate_change *out);
+
+/* A new queue with zeroed cells and no mark. NVMIGRATE_BAD_QUEUE exactly where `count` isn't 2 to 65,536 or `live` is neither 0
+ * nor 1, and else NVMIGRATE_LIVE exactly where it is 1. Of `queue` nothing else is read. */
+uint32_t nvmigrate_queue_create(struct nvmigrate_queue *queue, uint8_t (*cells)[32], size_t count);
+
+/* The queue isn't live any more. */
+uint32_t nvmigrate_queue_delete(struct nvmigrate_queue *queue);
+
+/* Posts a change behind the others. NVMIGRATE_BAD_FIELD exactly where it names other blocks than it may; else NVMIGRATE_FULL
+ * exactly where the mark is up or no cell is free: then the mark is up, and nothing was posted. */
+uint32_t nvmigrate_queue_post(struct nvmigrate_queue *queue, uint8_t (*cells)[32], size_t count,
+                              const struct nvmigrate_change *change);
+
+/* Takes the oldest change that isn't taken. NVMIGRATE_NONE exactly where none waits. */
+uint32_t nvmigrate_queue_take(struct nvmigrate_queue *queue, const uint8_t (*cells)[32], size_t count,
+                              struct nvmigrate_change *out);
+
+/* Takes all changes before a place. NVMIGRATE_BAD_DOORBELL exactly where it isn't one from the head to the next place of
+ * posting, in ring order. */
+uint32_t nvmigrate_queue_set_head(struct nvmigrate_queue *queue, const uint8_t (*cells)[32], size_t count, uint32_t value);
+
 /* ---- Transcripts are judged ---------------------------------------------------------------------------------------- */
 
 /* Where a text is wrong: the line, counted from 1, and of a script's line why: 0 its form, 1 a number that is out of its
@@ -259,9 +311,9 @@ uint32_t nvmigrate_judge(const uint8_t *text, size_t count, struct nvmigrate_wro
 
 /* ---- Layout ------------------------------------------------------------------------------------------------------- */
 
-/* How the library sees the structs, to be compared with what the C compiler sees (tests/layout.c): the size of a struct, by
- * its place in this list, sqe, cqe, sq, cq, guest_cq, admin, pair, parts, and 0 for another place; and the fields of one in
- * order, those of a pair being its two ends', and of the bytes of parts the first and the last. */
+/* How the library sees the structs, to be compared with what the C compiler sees (tests/c/layout.c): the size of a struct, by
+ * its place in this list, sqe, cqe, sq, cq, guest_cq, admin, pair, parts, wrong_line, change, queue, and 0 for another place;
+ * and the fields of one in order, those of a pair being its two ends', and of the bytes of parts the first and the last. */
 size_t nvmigrate_layout_size(uint32_t place);
 void nvmigrate_layout_sqe(const struct nvmigrate_sqe *entry, uint64_t out[15]);
 void nvmigrate_layout_cqe(const struct nvmigrate_cqe *entry, uint64_t out[11]);
@@ -269,6 +321,9 @@ void nvmigrate_layout_pair(const struct nvmigrate_pair *pair, uint64_t out[7]);
 void nvmigrate_layout_guest_cq(const struct nvmigrate_guest_cq *cq, uint64_t out[3]);
 void nvmigrate_layout_admin(const struct nvmigrate_admin *command, uint64_t out[8]);
 void nvmigrate_layout_parts(const struct nvmigrate_parts *parts, uint64_t out[4]);
+void nvmigrate_layout_wrong_line(const struct nvmigrate_wrong_line *line, uint64_t out[2]);
+void nvmigrate_layout_change(const struct nvmigrate_change *change, uint64_t out[2]);
+void nvmigrate_layout_queue(const struct nvmigrate_queue *queue, uint64_t out[6]);
 
 #ifdef __cplusplus
 }

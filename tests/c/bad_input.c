@@ -26,11 +26,11 @@ static void fill(void *at, size_t size) {
         bytes[i] = (unsigned char)number();
 }
 
-static unsigned long calls, codes[16];
+static unsigned long calls, codes[NVMIGRATE_LIVE + 1];
 
 static void answered(uint32_t code, const char *what) {
     calls++;
-    if (code > NVMIGRATE_BAD_PARTS) {
+    if (code > NVMIGRATE_LIVE) {
         printf("%s answered %u\n", what, code);
         exit(1);
     }
@@ -56,13 +56,16 @@ static uint8_t page[4096], bytes[264];
 
 static void rings(void) {
     union { struct nvmigrate_sq sq; struct nvmigrate_cq cq; struct nvmigrate_guest_cq guest_cq; } old;
-    struct nvmigrate_sq sq = {number(), number(), number()};
-    struct nvmigrate_cq cq = {number(), number(), number(), number()};
-    struct nvmigrate_guest_cq guest_cq = {number(), number(), number()};
+    struct nvmigrate_sq sq;
+    struct nvmigrate_cq cq;
+    struct nvmigrate_guest_cq guest_cq;
     struct nvmigrate_sqe sqe;
     struct nvmigrate_cqe cqe;
     uint16_t count;
     fill(page, sizeof page);
+    fill(&sq, sizeof sq);
+    fill(&cq, sizeof cq);
+    fill(&guest_cq, sizeof guest_cq);
     fill(&sqe, sizeof sqe);
     fill(&cqe, sizeof cqe);
     if (word() % 4) {
@@ -89,9 +92,11 @@ static void rings(void) {
 static void entries(void) {
     struct nvmigrate_sqe sqe;
     struct nvmigrate_cqe cqe;
-    struct nvmigrate_admin admin = {number(), number() % 10, number(), number(), number(), number(), number(), number()}, old;
+    struct nvmigrate_admin admin, old;
     uint8_t in[64], out[64] = {0}, place;
     fill(in, sizeof in);
+    fill(&admin, sizeof admin);
+    admin.what %= 10, admin.max = number(), admin.length = number(), admin.cells = number();
     nvmigrate_sqe_from_bytes(in, &sqe);
     nvmigrate_sqe_to_bytes(&sqe, out);
     answered(memcmp(in, out, 64) != 0 ? 99 : NVMIGRATE_OK, "sqe_to_bytes");
@@ -144,15 +149,61 @@ static void images(void) {
     answered(nvmigrate_parts_whole(&parts, pairs), "parts_whole");
 }
 
+static void queues(void) {
+    static uint8_t cells[65537][32];
+    struct nvmigrate_queue queue, old;
+    struct nvmigrate_change change = {number(), number()};
+    size_t count = word() % 4 ? word() % 9 : number() & 0xffff;
+    fill(&queue, sizeof queue);
+    CALL(nvmigrate_queue_take, queue, &queue, (const uint8_t(*)[32])cells, count, &change);
+    CALL(nvmigrate_queue_delete, queue, &queue);
+    queue.live = word() % 2;
+    CALL(nvmigrate_queue_create, queue, &queue, cells, SIZE_MAX);
+    CALL(nvmigrate_queue_create, queue, &queue, cells, 65537);
+    CALL(nvmigrate_queue_create, queue, &queue, cells, count);
+    for (int i = 0; i < 12; i++) {
+        change = (struct nvmigrate_change){word() % 8 ? word() % 131072 : number(), word() % 8 ? word() % 64 + 1 : number()};
+        answered(nvmigrate_queue_post(&queue, cells, count, &change), "queue_post");
+        if (word() % 2)
+            CALL(nvmigrate_queue_take, queue, &queue, (const uint8_t(*)[32])cells, count, &change);
+        CALL(nvmigrate_queue_set_head, queue, &queue, (const uint8_t(*)[32])cells, count, word() % 2 ? word() % 9 : number());
+    }
+    CALL(nvmigrate_queue_set_head, queue, &queue, (const uint8_t(*)[32])cells, SIZE_MAX, number());
+    CALL(nvmigrate_queue_delete, queue, &queue);
+    answered(nvmigrate_change_to_bytes(&change, number(), cells[0]), "change_to_bytes");
+    nvmigrate_change_from_bytes(cells[1], &change);
+}
+
+/* A right text with a byte spoilt, cut off, or of nothing but such bytes. */
+static void texts(void) {
+    static const char right[] = "nvmigrate script 1\nblocks 32\nshelf 16\nlanes 1\nlane 1 sq 4 cq 4 pages 2\nburst 4\nmix 0\n"
+                                "change 4\nslice 4\nsmall 4\npages 4\npatience 8\n1 fill 0 5a\n1 submit 1 write 3 1 0 -\n"
+                                "1 wait\nend\nnvmigrate transcript 1\nready\nact 1 1\nact 1 2\nfetch 1 1 0 00 1\n"
+                                "piece 1 1 3 1 ok\npost 1 1 0 00\nreap 1 1 0 00 1 1\nact 1 3\nend\n";
+    uint8_t text[sizeof right - 1];
+    struct nvmigrate_wrong_line wrong = {0, 0};
+    size_t count = word() % 4 ? sizeof text : word() % sizeof text;
+    memcpy(text, right, sizeof text);
+    answered(nvmigrate_judge(text, sizeof text, &wrong) != NVMIGRATE_OK ? 99 : NVMIGRATE_OK, "judge");
+    text[word() % sizeof text] = word() % 2 ? '0' + word() % 10 : number();
+    answered(nvmigrate_judge(text, count, &wrong), "judge");
+    answered(nvmigrate_judge(text, SIZE_MAX, &wrong), "judge");
+    if (word() % 8 == 0)
+        fill(text, sizeof text);
+    answered(nvmigrate_judge(text, count, &wrong), "judge");
+}
+
 int main(int argc, char **argv) {
-    unsigned long times = argc > 1 ? strtoul(argv[1], 0, 10) : 20000;
+    unsigned long times = argc > 1 ? strtoul(argv[1], 0, 10) : 4000;
     for (unsigned long i = 0; i < times; i++) {
         rings();
         entries();
         images();
+        queues();
+        texts();
     }
     printf("%lu calls\n", calls);
-    for (int code = 0; code <= NVMIGRATE_BAD_PARTS; code++)
+    for (int code = 0; code <= NVMIGRATE_LIVE; code++)
         printf("code %d %s\n", code, codes[code] ? "came" : "never came");
     return 0;
 }

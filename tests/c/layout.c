@@ -41,7 +41,10 @@ static void sizes(void) {
     SIZE(5, admin);
     SIZE(6, pair);
     SIZE(7, parts);
-    check("size of another", nvmigrate_layout_size(8), 0);
+    SIZE(8, wrong_line);
+    SIZE(9, change);
+    SIZE(10, queue);
+    check("size of another", nvmigrate_layout_size(11), 0);
     check("size of another", nvmigrate_layout_size(UINT32_MAX), 0);
 }
 
@@ -92,11 +95,33 @@ static void others(void) {
     FIELD(parts, 0, fed), FIELD(parts, 1, lanes), FIELD(parts, 2, bytes[0]), FIELD(parts, 3, bytes[263]);
 }
 
+static void last(void) {
+    uint64_t out[6];
+    {
+        struct nvmigrate_wrong_line x;
+        fill(&x, sizeof x);
+        nvmigrate_layout_wrong_line(&x, out);
+        FIELD(wrong_line, 0, line), FIELD(wrong_line, 1, why);
+    }
+    {
+        struct nvmigrate_change x;
+        fill(&x, sizeof x);
+        nvmigrate_layout_change(&x, out);
+        FIELD(change, 0, first), FIELD(change, 1, count);
+    }
+    struct nvmigrate_queue x;
+    fill(&x, sizeof x);
+    nvmigrate_layout_queue(&x, out);
+    FIELD(queue, 0, head), FIELD(queue, 1, next), FIELD(queue, 2, waiting), FIELD(queue, 3, phase);
+    FIELD(queue, 4, marked), FIELD(queue, 5, live);
+}
+
 int main(void) {
     sizes();
     entries();
     rings();
     others();
+    last();
     puts(wrong ? "the layouts differ" : "the layouts are the same");
     return wrong;
 }

@@ -34,3 +34,9 @@ pub const WRONG_FORM: u32 = 14;
 pub const WRONG_LEGAL: u32 = 15;
 /// The transcript ends, and some lane isn't complete.
 pub const WRONG_COMPLETE: u32 = 16;
+/// The struct isn't one of a queue of so many cells.
+pub const BAD_QUEUE: u32 = 17;
+/// The queue wasn't created, or is deleted.
+pub const NOT_LIVE: u32 = 18;
+/// The queue is live already.
+pub const LIVE: u32 = 19;

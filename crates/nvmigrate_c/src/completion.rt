@@ -89,11 +89,7 @@ impl GuestCq {
         if self.phase > 1 || self.size < 2 || self.size > 256 || self.head >= self.size {
             return None;
         }
-        Some(nvm_ring::GuestCq::at(
-            self.size,
-            self.head,
-            self.phase == 1,
-        ))
+        Some(nvm_ring::GuestCq::at(self.size, self.head, self.phase == 1))
     }
 }
 
@@ -238,7 +234,11 @@ pub extern "C" fn nvmigrate_guest_cq_new(size: u16, out: &mut GuestCq) -> u32
 /// `BAD_RING` exactly where the struct is no ring, `NONE` exactly where it is one and the cell at the guest's place has
 /// the phase tag of the pass before (Base 2.1, Phase Tag); then `cq` and `out` stay as they were.
 #[unsafe(no_mangle)]
-pub extern "C" fn nvmigrate_guest_cq_reap(cq: &mut GuestCq, page: &[u8; 4096], out: &mut CqEntry) -> u32
+pub extern "C" fn nvmigrate_guest_cq_reap(
+    cq: &mut GuestCq,
+    page: &[u8; 4096],
+    out: &mut CqEntry,
+) -> u32
     ensures bad { (IsGuest cq.old → ⊥) → result ≡ BAD_RING }
     ensures none { IsGuest cq.old → (cqe_of (cell 16 cq.old.head page.now)).phase ≢ (cq.old.phase == 1)
         → result ≡ NONE }

@@ -5,10 +5,12 @@ ghost use Rattle.nvmigrate_c.specs.Layout.{size_in};
 use crate::admin::Command;
 use crate::completion::{Cq, GuestCq};
 use crate::entry::{CqEntry, SqEntry};
+use crate::judging::WrongLine;
 use crate::parts::{Pair, Parts};
+use crate::queue::{Entry, Queue};
 use crate::ring::Sq;
 
-const SIZES: [usize; 8] = [
+const SIZES: [usize; 11] = [
     size_of::<SqEntry>(),
     size_of::<CqEntry>(),
     size_of::<Sq>(),
@@ -17,6 +19,9 @@ const SIZES: [usize; 8] = [
     size_of::<Command>(),
     size_of::<Pair>(),
     size_of::<Parts>(),
+    size_of::<WrongLine>(),
+    size_of::<Entry>(),
+    size_of::<Queue>(),
 ];
 
 /// The size in bytes of a struct, by its place among those of the header; 0 for another number.
@@ -24,7 +29,7 @@ const SIZES: [usize; 8] = [
 pub extern "C" fn nvmigrate_layout_size(place: u32) -> usize
     ensures { result ≡ size_in place }
 {
-    if place >= 8 {
+    if place >= 11 {
         return 0;
     }
     SIZES[place as usize]
@@ -99,11 +104,7 @@ pub extern "C" fn nvmigrate_layout_pair(p: &Pair, out: &mut [u64; 7])
 pub extern "C" fn nvmigrate_layout_guest_cq(cq: &GuestCq, out: &mut [u64; 3])
     ensures { out.new ≡ cq.now.size ∷ cq.now.head ∷ cq.now.phase ∷ [] }
 {
-    *out = [
-        u64::from(cq.size),
-        u64::from(cq.head),
-        u64::from(cq.phase),
-    ];
+    *out = [u64::from(cq.size), u64::from(cq.head), u64::from(cq.phase)];
 }
 
 /// The fields of an admin command, in order.
@@ -134,5 +135,36 @@ pub extern "C" fn nvmigrate_layout_parts(p: &Parts, out: &mut [u64; 4])
         u64::from(p.lanes),
         u64::from(p.bytes[0]),
         u64::from(p.bytes[263]),
+    ];
+}
+
+/// The fields of a wrong line, in order.
+#[unsafe(no_mangle)]
+pub extern "C" fn nvmigrate_layout_wrong_line(w: &WrongLine, out: &mut [u64; 2])
+    ensures { out.new ≡ w.now.line ∷ w.now.why ∷ [] }
+{
+    *out = [u64::from(w.line), u64::from(w.why)];
+}
+
+/// The fields of a change, in order.
+#[unsafe(no_mangle)]
+pub extern "C" fn nvmigrate_layout_change(e: &Entry, out: &mut [u64; 2])
+    ensures { out.new ≡ e.now.first ∷ e.now.count ∷ [] }
+{
+    *out = [u64::from(e.first), u64::from(e.count)];
+}
+
+/// The fields of a change queue, in order.
+#[unsafe(no_mangle)]
+pub extern "C" fn nvmigrate_layout_queue(q: &Queue, out: &mut [u64; 6])
+    ensures { out.new ≡ q.now.head ∷ q.now.next ∷ q.now.waiting ∷ q.now.phase ∷ q.now.marked ∷ q.now.live ∷ [] }
+{
+    *out = [
+        u64::from(q.head),
+        u64::from(q.next),
+        u64::from(q.waiting),
+        u64::from(q.phase),
+        u64::from(q.marked),
+        u64::from(q.live),
     ];
 }

@@ -9,4 +9,5 @@ mod entry;
 mod judging;
 mod layout;
 mod parts;
+mod queue;
 mod ring;

@@ -112,7 +112,12 @@ pub extern "C" fn nvmigrate_parts_new(lanes: u8, out: &mut Parts) -> u32
 /// image's end, `BAD_IMAGE` exactly where no image goes on with it, with the first such place; then the bytes fed before
 /// stay, but none where the part began anew.
 #[unsafe(no_mangle)]
-pub extern "C" fn nvmigrate_parts_feed(parts: &mut Parts, offset: u32, part: &[u8], place: &mut u32) -> u32
+pub extern "C" fn nvmigrate_parts_feed(
+    parts: &mut Parts,
+    offset: u32,
+    part: &[u8],
+    place: &mut u32,
+) -> u32
     ensures bad { (IsParts parts.old → ⊥) → (result ≡ BAD_PARTS) × (parts.new ≡ parts.old) }
     ensures fed { IsParts parts.old → MatchOption (feed_told result place.new) ⊥
         (λ r. Feeds offset part.now r (parts_in parts.old) (parts_in parts.new)) }
@@ -196,7 +201,11 @@ pub extern "C" fn nvmigrate_parts_whole(parts: &Parts, out: &mut [Pair; 8]) -> u
 /// `TOO_LONG` exactly where there are more than 8 pairs, `BAD_RING` exactly where there aren't and an end of one is no
 /// ring; then `out` and `count` stay as they were.
 #[unsafe(no_mangle)]
-pub extern "C" fn nvmigrate_image_encode(pairs: &[Pair], out: &mut [u8; 264], count: &mut u32) -> u32
+pub extern "C" fn nvmigrate_image_encode(
+    pairs: &[Pair],
+    out: &mut [u8; 264],
+    count: &mut u32,
+) -> u32
     ensures many { 8 < length pairs.now → result ≡ TOO_LONG }
     ensures bad { length pairs.now ≤ 8 → (All HasRings pairs.now → ⊥) → result ≡ BAD_RING }
     ensures done { length pairs.now ≤ 8 → All HasRings pairs.now → result ≡ OK }

@@ -154,7 +154,11 @@ pub extern "C" fn nvmigrate_sq_fetch(sq: &mut Sq, page: &[u8; 4096], out: &mut S
 /// `BAD_RING` exactly where the struct is no ring, `FULL` exactly where it is one and the place after its tail is the
 /// head that was learnt last; then `sq` and the page stay as they were.
 #[unsafe(no_mangle)]
-pub extern "C" fn nvmigrate_guest_sq_submit(sq: &mut Sq, page: &mut [u8; 4096], entry: &SqEntry) -> u32
+pub extern "C" fn nvmigrate_guest_sq_submit(
+    sq: &mut Sq,
+    page: &mut [u8; 4096],
+    entry: &SqEntry,
+) -> u32
     ensures bad { (IsSq sq.old → ⊥) → result ≡ BAD_RING }
     ensures done { IsSq sq.old → next_place sq.old.size sq.old.tail ≢ sq.old.head → result ≡ OK }
     ensures full { IsSq sq.old → next_place sq.old.size sq.old.tail ≡ sq.old.head → result ≡ FULL }
