@@ -1,5 +1,5 @@
-/* Each struct as the C compiler sees it, against the library: the sizes, and for each field that the library reads at the
- * C compiler's offset what was put there, with a different byte at each place of the struct. */
+/* Each struct as the C compiler sees it, against the library: the sizes, and for each field that the library reads
+ * at the C compiler's offset what was put there, with a different byte at each place of the struct. */
 #include <nvmigrate.h>
 #include <stdio.h>
 #include <string.h>

@@ -4,7 +4,15 @@ use Rattle.data_queue.specs.Log.{QueueState}
 
 -- the queue of these places over these cells
 abbrev pub queue_of : Places → List (List ℕ) → QueueState
-queue_of p cells = record { cells = cells; head = p.head; next = p.next; waiting = p.waiting; phase = p.phase; marked = p.marked; live = p.live }
+queue_of p cells = record {
+  cells = cells;
+  head = p.head;
+  next = p.next;
+  waiting = p.waiting;
+  phase = p.phase;
+  marked = p.marked;
+  live = p.live;
+}
 
 -- the places of a queue of so many cells
 pub record ArePlaces (count : ℕ) (p : Places) : Type 0 where

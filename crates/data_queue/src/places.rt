@@ -9,9 +9,9 @@ ghost use Rattle.nvm_model.specs.Ring.{places_between};
 use crate::Change;
 use crate::queue::{BadHead, Full};
 
-/// The places of a queue of from 2 to 65,536 cells of 32 bytes, which stand elsewhere: that of the oldest entry that isn't
-/// taken, that of the next one, how many lie between, the phase tag of the next one, whether the mark is up, and whether the
-/// queue was created and isn't deleted.
+/// The places of a queue of from 2 to 65,536 cells of 32 bytes, which stand elsewhere: that of the oldest entry that
+/// isn't taken, that of the next one, how many lie between, the phase tag of the next one, whether the mark is up,
+/// and whether the queue was created and isn't deleted.
 #[derive(Clone, Copy)]
 pub struct Places {
     pub head: u32,
@@ -104,8 +104,8 @@ impl Places {
     ///
     /// # Errors
     ///
-    /// `BadHead` exactly where that is no place from the head to the next place of posting, in ring order. Nothing changes
-    /// then.
+    /// `BadHead` exactly where that is no place from the head to the next place of posting, in ring order. Nothing
+    /// changes then.
     pub fn set_head(&mut self, cells: &[[u8; 32]], value: u32) -> Result<(), BadHead>
         requires places { ArePlaces (length cells.now) self.old }
         requires live { self.old.live ≡ true }
@@ -113,8 +113,9 @@ impl Places {
             && nat_le (places_between (length cells.now) self.old.head value) self.old.waiting) }
         ensures refused { OnErr result (self.new ≡ self.old) }
         ensures kept { (self.new.marked ≡ self.old.marked) × (self.new.live ≡ true) }
-        ensures taken { OnOk result ((posted : List Change) (taken : ℕ) → IsLog (queue_of self.old cells.now) posted taken
-            → IsLog (queue_of self.new cells.now) posted (taken + places_between (length cells.now) self.old.head value)) }
+        ensures taken { OnOk result ((posted : List Change) (taken : ℕ)
+            → IsLog (queue_of self.old cells.now) posted taken → IsLog (queue_of self.new cells.now) posted
+            (taken + places_between (length cells.now) self.old.head value)) }
         ensures sound { ArePlaces (length cells.now) self.new }
     {
         let size = cells.len() as u32;

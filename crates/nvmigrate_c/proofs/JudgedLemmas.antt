@@ -1,5 +1,5 @@
 -- One verdict is said of a script and what stands behind it.
-use Rattle.std.proofs.Common.{◌≡◌, ◌⊎◌, ℕ, ◌-◌, Result, Ok, Err, List, ◌++◌, ◌∙◌, ⊎_elim, ap, drop, length, refl, subst, sym, take, inl, inr}
+use Rattle.std.proofs.Common.{◌≡◌, ◌⊎◌, ℕ, ◌-◌, Result, Ok, Err, List, ◌++◌, ◌∙◌, ⊎_elim, ap, drop, length, refl, subst, sym, take}
 use Rattle.std.proofs.lemmas.List.{drop_at, take_rest}
 use Rattle.nvm_model.specs.declared.script.Script.{Script}
 use Rattle.nvm_model.specs.ScriptText.{script_text}

@@ -6,7 +6,8 @@ use Rattle.adm_values.specs.declared.kind.AdminRefusal.{AdminRefusal}
 use Rattle.adm_values.specs.declared.kind.AdminRefusal.TheVariants.{BadOpcode, BadSelect, BadField}
 use Rattle.nvmigrate_c.specs.declared.admin.Command.{Command}
 
--- What C's struct of an admin command says, by the number of what it asks for; of a number or a flag that is none, nothing.
+-- What C's struct of an admin command says, by the number of what it asks for; of a number or a flag that is none,
+-- nothing.
 
 abbrev pub what_in : Command → Option What
 what_in c =

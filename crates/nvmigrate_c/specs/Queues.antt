@@ -1,4 +1,4 @@
-use Rattle.std.specs.Prelude.{ℕ, ◌≤◌, ◌==◌, List, Option, Some, None, Result, Ok, Err, if◌then◌else◌}
+use Rattle.std.specs.Prelude.{ℕ, ◌≤◌, ◌==◌, List, Option, Some, None, if◌then◌else◌}
 use Rattle.data_queue.specs.declared.change.Change.{Change}
 use Rattle.data_queue.specs.declared.places.Places.{Places}
 use Rattle.data_queue.specs.Log.{QueueState}
@@ -12,7 +12,14 @@ abbrev pub change_in : Entry → Change
 change_in e = record { span = record { first = e.first; count = e.count } }
 
 abbrev pub places_in : Queue → Places
-places_in q = record { head = q.head; next = q.next; waiting = q.waiting; phase = q.phase == 1; marked = q.marked == 1; live = q.live == 1 }
+places_in q = record {
+  head = q.head;
+  next = q.next;
+  waiting = q.waiting;
+  phase = q.phase == 1;
+  marked = q.marked == 1;
+  live = q.live == 1;
+}
 
 -- with the cells that C owns
 abbrev pub queue_in : Queue → List (List ℕ) → QueueState

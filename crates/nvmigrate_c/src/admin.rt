@@ -9,8 +9,8 @@ use crate::entry::flag;
 use adm_values::{AdminCmd, AdminRefusal, What};
 
 /// An admin command of host managed live migration (Base 2.1, Track Send, Track Receive, Migration Send, Migration
-/// Receive and Controller Data Queue commands): its identifier, what it asks for, from 0 to 8, and its numbers, of which
-/// it has some, by that number:
+/// Receive and Controller Data Queue commands): its identifier, what it asks for, from 0 to 8, and its numbers, of
+/// which it has some, by that number:
 ///
 /// 0. Log User Data Changes: `start`, 0 or 1, and `queue`.
 /// 1. Track Memory Changes: `start`.
@@ -36,7 +36,8 @@ pub struct Command {
 
 /// A command of that number, whose own numbers are zeroes.
 fn of_kind(cid: u16, what: u8) -> Command
-    ensures { result ≡ record { cid = cid; what = what; start = 0; queue = 0; max = 0; offset = 0; length = 0; cells = 0 } }
+    ensures { result
+        ≡ record { cid = cid; what = what; start = 0; queue = 0; max = 0; offset = 0; length = 0; cells = 0 } }
 {
     Command {
         cid,
@@ -154,7 +155,8 @@ fn is_in_range(what: What) -> bool
 ///
 /// # Errors
 ///
-/// `BAD_FIELD` exactly where the struct says no command, or a number of it is out of its range; `out` stays as it was.
+/// `BAD_FIELD` exactly where the struct says no command, or a number of it is out of its range; `out` stays as it
+/// was.
 #[unsafe(no_mangle)]
 pub extern "C" fn nvmigrate_admin_to_bytes(command: &Command, out: &mut [u8; 64]) -> u32
     ensures done { IfSome (command_in command.now) (λ c. IsCommand c → (result ≡ OK) × (out.new ≡ command_bytes c)) }
@@ -176,10 +178,10 @@ pub extern "C" fn nvmigrate_admin_to_bytes(command: &Command, out: &mut [u8; 64]
 ///
 /// # Errors
 ///
-/// `BAD_OPCODE` exactly where byte 0 is the opcode of no command, `BAD_SELECT` exactly where it is one's and byte 40 is
-/// the selector of no command of that opcode. `BAD_FIELD` exactly where both are and the bytes aren't a command, with the
-/// first place, from 1 to 63, such that no command with this opcode and this selector has the same bytes at every place up
-/// to it. Then `out` stays as it was, and `place` too, but for `BAD_FIELD`.
+/// `BAD_OPCODE` exactly where byte 0 is the opcode of no command, `BAD_SELECT` exactly where it is one's and byte 40
+/// is the selector of no command of that opcode. `BAD_FIELD` exactly where both are and the bytes aren't a command,
+/// with the first place, from 1 to 63, such that no command with this opcode and this selector has the same bytes at
+/// every place up to it. Then `out` stays as it was, and `place` too, but for `BAD_FIELD`.
 #[unsafe(no_mangle)]
 pub extern "C" fn nvmigrate_admin_from_bytes(b: &[u8; 64], out: &mut Command, place: &mut u8) -> u32
     ensures read { MatchOption (read_told result (command_in out.new) place.new) ⊥ (λ r. Reads b.now r) }

@@ -13,8 +13,8 @@ use crate::entry::{CqEntry, flag};
 use crate::ring::is_ring;
 use nvm_ring::{CqRing, RingState};
 
-/// The controller's end of a completion queue, of from 2 to 256 places: how many, that of the oldest entry, that of the
-/// next one, and the phase tag of the next.
+/// The controller's end of a completion queue, of from 2 to 256 places: how many, that of the oldest entry, that of
+/// the next one, and the phase tag of the next.
 #[repr(C)]
 #[derive(Clone, Copy)]
 pub struct Cq {
@@ -141,20 +141,22 @@ pub extern "C" fn nvmigrate_cq_free(cq: &Cq, out: &mut u16) -> u32
     OK
 }
 
-/// The controller writes a completion into the queue's page, after the others, with the queue's phase tag in place of its
-/// own (Base 2.1, Phase Tag).
+/// The controller writes a completion into the queue's page, after the others, with the queue's phase tag in place of
+/// its own (Base 2.1, Phase Tag).
 ///
 /// # Errors
 ///
-/// `BAD_RING` exactly where the struct is no ring, `BAD_FIELD` exactly where it is one and a number of the completion is
-/// out of its range, `FULL` exactly where neither is so and the place after the tail is the head; then `cq` and the page
-/// stay as they were.
+/// `BAD_RING` exactly where the struct is no ring, `BAD_FIELD` exactly where it is one and a number of the completion
+/// is out of its range, `FULL` exactly where neither is so and the place after the tail is the head; then `cq` and
+/// the page stay as they were.
 #[unsafe(no_mangle)]
 pub extern "C" fn nvmigrate_cq_post(cq: &mut Cq, page: &mut [u8; 4096], entry: &CqEntry) -> u32
     ensures bad { (IsCq cq.old → ⊥) → result ≡ BAD_RING }
     ensures field { IsCq cq.old → (IsCqEntry entry.now → ⊥) → result ≡ BAD_FIELD }
-    ensures done { IsCq cq.old → IsCqEntry entry.now → next_place cq.old.size cq.old.tail ≢ cq.old.head → result ≡ OK }
-    ensures full { IsCq cq.old → IsCqEntry entry.now → next_place cq.old.size cq.old.tail ≡ cq.old.head → result ≡ FULL }
+    ensures done { IsCq cq.old → IsCqEntry entry.now → next_place cq.old.size cq.old.tail ≢ cq.old.head
+        → result ≡ OK }
+    ensures full { IsCq cq.old → IsCqEntry entry.now → next_place cq.old.size cq.old.tail ≡ cq.old.head
+        → result ≡ FULL }
     ensures moved { result ≡ OK → cq_in cq.new ≡ after_post (cq_in cq.old) }
     ensures page { result ≡ OK → page.new
         ≡ written page.old (16 * cq.old.tail) (cqe_bytes (with_phase (cq.old.phase == 1) (cqe_in entry.now))) }
@@ -179,8 +181,8 @@ pub extern "C" fn nvmigrate_cq_post(cq: &mut Cq, page: &mut [u8; 4096], entry: &
 ///
 /// # Errors
 ///
-/// `BAD_RING` exactly where the struct is no ring, `BAD_DOORBELL` exactly where it is one and the value isn't one of its
-/// places from head to tail in ring order; then it stays as it was.
+/// `BAD_RING` exactly where the struct is no ring, `BAD_DOORBELL` exactly where it is one and the value isn't one of
+/// its places from head to tail in ring order; then it stays as it was.
 #[unsafe(no_mangle)]
 pub extern "C" fn nvmigrate_cq_set_head(cq: &mut Cq, value: u16) -> u32
     ensures bad { (IsCq cq.old → ⊥) → result ≡ BAD_RING }
@@ -231,8 +233,8 @@ pub extern "C" fn nvmigrate_guest_cq_new(size: u16, out: &mut GuestCq) -> u32
 ///
 /// # Errors
 ///
-/// `BAD_RING` exactly where the struct is no ring, `NONE` exactly where it is one and the cell at the guest's place has
-/// the phase tag of the pass before (Base 2.1, Phase Tag); then `cq` and `out` stay as they were.
+/// `BAD_RING` exactly where the struct is no ring, `NONE` exactly where it is one and the cell at the guest's place
+/// has the phase tag of the pass before (Base 2.1, Phase Tag); then `cq` and `out` stay as they were.
 #[unsafe(no_mangle)]
 pub extern "C" fn nvmigrate_guest_cq_reap(
     cq: &mut GuestCq,

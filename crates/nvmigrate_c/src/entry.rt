@@ -28,8 +28,8 @@ pub struct SqEntry {
     pub cdw15: u32,
 }
 
-/// A completion queue entry (Base 2.1, section 4.2): `phase`, `more` and `dnr` are 0 or 1, `sct` is at most 7, and `crd`
-/// at most 3.
+/// A completion queue entry (Base 2.1, section 4.2): `phase`, `more` and `dnr` are 0 or 1, `sct` is at most 7, and
+/// `crd` at most 3.
 #[repr(C)]
 #[derive(Clone, Copy)]
 pub struct CqEntry {

@@ -20,8 +20,8 @@ use std::alloc::Global;
 /// The longest text that is judged, in bytes: a script and a transcript behind it.
 const MOST_JUDGED: usize = 67_108_864;
 
-/// Where a text is wrong: the line, counted from 1, and of a script's line what is wrong with it: 0 its form, 1 a number
-/// that is out of its range, 2 that it has no line feed or isn't there.
+/// Where a text is wrong: the line, counted from 1, and of a script's line what is wrong with it: 0 its form, 1 a
+/// number that is out of its range, 2 that it has no line feed or isn't there.
 #[repr(C)]
 #[derive(Clone, Copy)]
 pub struct WrongLine {
@@ -29,14 +29,14 @@ pub struct WrongLine {
     pub why: u32,
 }
 
-/// Judges a script and a transcript directly behind it: whether it is a whole transcript for the script, whose events are
-/// legal from a zeroed namespace and zeroed memory, and after which every lane is complete.
+/// Judges a script and a transcript directly behind it: whether it is a whole transcript for the script, whose events
+/// are legal from a zeroed namespace and zeroed memory, and after which every lane is complete.
 ///
 /// # Errors
 ///
-/// `TOO_LONG` exactly where the text has more than 67,108,864 bytes. `BAD_SCRIPT` where it has no script in front, with the
-/// first line that isn't right. `WRONG_FORM`, `WRONG_LEGAL` and `WRONG_COMPLETE` with the first line of the transcript that
-/// is wrong. `OUT_OF_MEMORY` where there is no memory. After the other codes `wrong` stays as it was.
+/// `TOO_LONG` exactly where the text has more than 67,108,864 bytes. `BAD_SCRIPT` where it has no script in front,
+/// with the first line that isn't right. `WRONG_FORM`, `WRONG_LEGAL` and `WRONG_COMPLETE` with the first line of the
+/// transcript that is wrong. `OUT_OF_MEMORY` where there is no memory. After the other codes `wrong` stays as it was.
 #[unsafe(no_mangle)]
 pub extern "C" fn nvmigrate_judge(alloc: Global, text: &[u8], wrong: &mut WrongLine) -> u32
     ensures long { 67108864 < length text.now → result ≡ TOO_LONG }
@@ -45,6 +45,9 @@ pub extern "C" fn nvmigrate_judge(alloc: Global, text: &[u8], wrong: &mut WrongL
         → MatchOption (verdict_told result wrong.new.line) ⊥ (λ v. HasVerdict text.now v) }
     ensures refused { result ≡ BAD_SCRIPT → (why : TheWhy) × (wrong.new.why ≡ why_number why)
         × IsFrontRefused text.now (Bad (record { line = wrong.new.line; why = why })) }
+    ensures yes { result ≡ OK → wrong.new ≡ wrong.old }
+    ensures unread { result ≡ TOO_LONG → wrong.new ≡ wrong.old }
+    ensures unjudged { result ≡ OUT_OF_MEMORY → wrong.new ≡ wrong.old }
     // One verdict at most is true of a text with a script in front, and it is said, unless memory runs out.
     ensures only { (s : TheScript) → (transcript : List ℕ) → (v : TheVerdict) → IsScript s
         → text.now ≡ script_text s ++ transcript → IsVerdict s transcript v → length text.now ≤ 67108864
@@ -91,7 +94,9 @@ fn judge_text(alloc: Global, text: &[u8]) -> Result<Verdict, ParseRefusal>
 
 fn fault_code(why: Fault) -> u32
     ensures told { (line : ℕ) → verdict_told result line ≡ Some (TheVerdict.No line why) }
+    ensures done { result ≢ OK }
     ensures short { result ≢ TOO_LONG }
+    ensures memory { result ≢ OUT_OF_MEMORY }
     ensures script { result ≢ BAD_SCRIPT }
 {
     match why {

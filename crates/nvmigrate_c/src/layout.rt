@@ -1,4 +1,5 @@
-// How the structs lie in memory, for a test that compares it with what the C compiler sees: each call reads every field.
+// How the structs lie in memory, for a test that compares it with what the C compiler sees: each call reads every
+// field.
 ghost use Rattle.std.specs.Prelude.{◌≡◌, [], ◌∷◌, slice_index};
 ghost use Rattle.nvmigrate_c.specs.Layout.{size_in};
 

@@ -102,15 +102,15 @@ pub extern "C" fn nvmigrate_parts_new(lanes: u8, out: &mut Parts) -> u32
     OK
 }
 
-/// Takes the part of the image that begins at byte `offset`: where the bytes fed end, or at byte 0, where a part begins
-/// anew.
+/// Takes the part of the image that begins at byte `offset`: where the bytes fed end, or at byte 0, where a part
+/// begins anew.
 ///
 /// # Errors
 ///
 /// `BAD_PARTS` exactly where the struct is none of parts that were fed; it stays as it was. Else, in this order:
-/// `BAD_SEQUENCE` exactly where the part begins elsewhere; then nothing changes. `TOO_LONG` exactly where it passes the
-/// image's end, `BAD_IMAGE` exactly where no image goes on with it, with the first such place; then the bytes fed before
-/// stay, but none where the part began anew.
+/// `BAD_SEQUENCE` exactly where the part begins elsewhere; then nothing changes. `TOO_LONG` exactly where it passes
+/// the image's end, `BAD_IMAGE` exactly where no image goes on with it, with the first such place; then the bytes fed
+/// before stay, but none where the part began anew.
 #[unsafe(no_mangle)]
 pub extern "C" fn nvmigrate_parts_feed(
     parts: &mut Parts,
@@ -170,8 +170,8 @@ fn put(bytes: &mut [u8; 264], from: usize, part: &[u8])
 ///
 /// # Errors
 ///
-/// `BAD_PARTS` exactly where the struct is none of parts that were fed, `NONE` exactly where it is, and the image isn't
-/// whole; then `out` stays as it was.
+/// `BAD_PARTS` exactly where the struct is none of parts that were fed, `NONE` exactly where it is, and the image
+/// isn't whole; then `out` stays as it was.
 #[unsafe(no_mangle)]
 pub extern "C" fn nvmigrate_parts_whole(parts: &Parts, out: &mut [Pair; 8]) -> u32
     ensures bad { (IsParts parts.now → ⊥) → result ≡ BAD_PARTS }
@@ -193,13 +193,13 @@ pub extern "C" fn nvmigrate_parts_whole(parts: &Parts, out: &mut [Pair; 8]) -> u
     OK
 }
 
-/// Writes the image of the state of these pairs, of lanes 1 and up, into the first bytes of `out`, and how many they are:
-/// 8, and 32 for each pair. The others stay.
+/// Writes the image of the state of these pairs, of lanes 1 and up, into the first bytes of `out`, and how many they
+/// are: 8, and 32 for each pair. The others stay.
 ///
 /// # Errors
 ///
-/// `TOO_LONG` exactly where there are more than 8 pairs, `BAD_RING` exactly where there aren't and an end of one is no
-/// ring; then `out` and `count` stay as they were.
+/// `TOO_LONG` exactly where there are more than 8 pairs, `BAD_RING` exactly where there aren't and an end of one is
+/// no ring; then `out` and `count` stay as they were.
 #[unsafe(no_mangle)]
 pub extern "C" fn nvmigrate_image_encode(
     pairs: &[Pair],

@@ -19,9 +19,9 @@ pub struct Entry {
     pub count: u32,
 }
 
-/// The places of a queue of from 2 to 65,536 cells: that of the oldest entry that isn't taken, that of the next one, how
-/// many lie between, the phase tag of the next one, whether the mark is up, and whether the queue was created and isn't
-/// deleted.
+/// The places of a queue of from 2 to 65,536 cells: that of the oldest entry that isn't taken, that of the next one,
+/// how many lie between, the phase tag of the next one, whether the mark is up, and whether the queue was created and
+/// isn't deleted.
 #[repr(C)]
 #[derive(Clone, Copy)]
 pub struct Queue {
@@ -138,8 +138,8 @@ pub extern "C" fn nvmigrate_change_from_bytes(b: &[u8; 32], out: &mut Entry)
 ///
 /// # Errors
 ///
-/// `BAD_QUEUE` exactly where there are fewer than 2 cells, more than 65,536, or `live` is neither 0 nor 1; else `LIVE`
-/// exactly where it is 1. Nothing changes then.
+/// `BAD_QUEUE` exactly where there are fewer than 2 cells, more than 65,536, or `live` is neither 0 nor 1; else
+/// `LIVE` exactly where it is 1. Nothing changes then.
 #[unsafe(no_mangle)]
 pub extern "C" fn nvmigrate_queue_create(queue: &mut Queue, cells: &mut [[u8; 32]]) -> u32
     ensures few { length cells.old < 2 → result ≡ BAD_QUEUE }
@@ -190,9 +190,9 @@ pub extern "C" fn nvmigrate_queue_delete(queue: &mut Queue) -> u32
 ///
 /// # Errors
 ///
-/// `BAD_QUEUE` exactly where the struct is none of a queue of so many cells; else `NOT_LIVE` exactly where it isn't live;
-/// else `BAD_FIELD` exactly where the entry names other blocks than it may. Nothing changes then. Else `FULL` exactly where
-/// the mark is up or no cell is free: the mark is up then, and nothing was posted.
+/// `BAD_QUEUE` exactly where the struct is none of a queue of so many cells; else `NOT_LIVE` exactly where it isn't
+/// live; else `BAD_FIELD` exactly where the entry names other blocks than it may. Nothing changes then. Else `FULL`
+/// exactly where the mark is up or no cell is free: the mark is up then, and nothing was posted.
 #[unsafe(no_mangle)]
 pub extern "C" fn nvmigrate_queue_post(
     queue: &mut Queue,
@@ -231,8 +231,8 @@ pub extern "C" fn nvmigrate_queue_post(
 ///
 /// # Errors
 ///
-/// `BAD_QUEUE` exactly where the struct is none of a queue of so many cells; else `NOT_LIVE` exactly where it isn't live;
-/// else `NONE` exactly where no entry waits. Nothing changes then.
+/// `BAD_QUEUE` exactly where the struct is none of a queue of so many cells; else `NOT_LIVE` exactly where it isn't
+/// live; else `NONE` exactly where no entry waits. Nothing changes then.
 #[unsafe(no_mangle)]
 pub extern "C" fn nvmigrate_queue_take(
     queue: &mut Queue,
@@ -268,9 +268,9 @@ pub extern "C" fn nvmigrate_queue_take(
 ///
 /// # Errors
 ///
-/// `BAD_QUEUE` exactly where the struct is none of a queue of so many cells; else `NOT_LIVE` exactly where it isn't live;
-/// else `BAD_DOORBELL` exactly where that is no place from the head to the next place of posting, in ring order. Nothing
-/// changes then.
+/// `BAD_QUEUE` exactly where the struct is none of a queue of so many cells; else `NOT_LIVE` exactly where it isn't
+/// live; else `BAD_DOORBELL` exactly where that is no place from the head to the next place of posting, in ring
+/// order. Nothing changes then.
 #[unsafe(no_mangle)]
 pub extern "C" fn nvmigrate_queue_set_head(queue: &mut Queue, cells: &[[u8; 32]], value: u32) -> u32
     ensures bad { (IsQueue (length cells.now) queue.old → ⊥) → result ≡ BAD_QUEUE }

@@ -13,7 +13,8 @@ use crate::code::{BAD_DOORBELL, BAD_RING, FULL, NONE, OK};
 use crate::entry::SqEntry;
 use nvm_ring::{RingState, SqRing};
 
-/// An end of a submission queue, of from 2 to 64 places: how many, that of the oldest entry, and that of the next one.
+/// An end of a submission queue, of from 2 to 64 places: how many, that of the oldest entry, and that of the next
+/// one.
 #[repr(C)]
 #[derive(Clone, Copy)]
 pub struct Sq {
@@ -99,8 +100,8 @@ pub extern "C" fn nvmigrate_sq_new(size: u16, out: &mut Sq) -> u32
 ///
 /// # Errors
 ///
-/// `BAD_RING` exactly where the struct is no ring, `BAD_DOORBELL` exactly where it is one and the value is its size or
-/// more; then it stays as it was.
+/// `BAD_RING` exactly where the struct is no ring, `BAD_DOORBELL` exactly where it is one and the value is its size
+/// or more; then it stays as it was.
 #[unsafe(no_mangle)]
 pub extern "C" fn nvmigrate_sq_set_tail(sq: &mut Sq, value: u16) -> u32
     ensures bad { (IsSq sq.old → ⊥) → result ≡ BAD_RING }
@@ -123,8 +124,8 @@ pub extern "C" fn nvmigrate_sq_set_tail(sq: &mut Sq, value: u16) -> u32
 ///
 /// # Errors
 ///
-/// `BAD_RING` exactly where the struct is no ring, `NONE` exactly where it is one and its head is its tail; then `sq` and
-/// `out` stay as they were.
+/// `BAD_RING` exactly where the struct is no ring, `NONE` exactly where it is one and its head is its tail; then `sq`
+/// and `out` stay as they were.
 #[unsafe(no_mangle)]
 pub extern "C" fn nvmigrate_sq_fetch(sq: &mut Sq, page: &[u8; 4096], out: &mut SqEntry) -> u32
     ensures bad { (IsSq sq.old → ⊥) → result ≡ BAD_RING }
@@ -146,8 +147,8 @@ pub extern "C" fn nvmigrate_sq_fetch(sq: &mut Sq, page: &[u8; 4096], out: &mut S
     OK
 }
 
-/// The guest writes an entry into the queue's page, after the others. The new tail, which the doorbell is rung with, is
-/// `sq.tail`.
+/// The guest writes an entry into the queue's page, after the others. The new tail, which the doorbell is rung with,
+/// is `sq.tail`.
 ///
 /// # Errors
 ///
