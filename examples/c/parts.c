@@ -7,8 +7,8 @@ static uint8_t sq_page[4096], cq_page[4096];
 
 static void entries(void) {
     /* Write, 8 blocks from block 4,294,967,303 on. */
-    struct nvmigrate_sqe write = {.opcode = 0x01, .cid = 7, .nsid = 1, .prp1 = 0x1002000, .cdw10 = 7, .cdw11 = 1, .cdw12 = 7};
-    struct nvmigrate_sqe again;
+    struct nvmigrate_sqe write = {.opcode = 0x01, .cid = 7, .nsid = 1, .prp1 = 0x1002000}, again;
+    write.cdw10 = 7, write.cdw11 = 1, write.cdw12 = 7;
     uint8_t bytes[64];
     nvmigrate_sqe_to_bytes(&write, bytes);
     nvmigrate_sqe_from_bytes(bytes, &again);

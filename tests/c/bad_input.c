@@ -1,9 +1,42 @@
 /* Numbers, bytes, lengths and doorbell values of every kind: each call answers a code of the header, and leaves what it
- * refuses as it was. The numbers come from SplitMix64, half of them near the bounds. */
+ * refuses as it was. The numbers come from SplitMix64, half of them near the bounds. The judge's memory is this program's:
+ * each allocation fails in turn, and all blocks are given back. */
 #include <nvmigrate.h>
+#include <stdbool.h>
 #include <stdio.h>
 #include <stdlib.h>
 #include <string.h>
+
+/* In place of nvmigrate_heap.c: of the allocations from here on the `fails_at`th fails, counted from 1. */
+struct tried {
+    bool ok;
+    uint8_t *at;
+};
+
+static unsigned long allocations, fails_at, blocks;
+static uint8_t none;
+
+static struct tried answer(void *at) {
+    return (struct tried){at != NULL, at != NULL ? at : &none};
+}
+
+struct tried rattle_alloc(size_t size, size_t align) {
+    (void)align;
+    if (++allocations == fails_at)
+        return answer(NULL);
+    blocks++;
+    return answer(malloc(size > 0 ? size : 1));
+}
+
+struct tried rattle_realloc(uint8_t *at, size_t kept, size_t size, size_t align) {
+    (void)kept, (void)align;
+    return answer(++allocations == fails_at ? NULL : realloc(at, size > 0 ? size : 1));
+}
+
+void rattle_dealloc(uint8_t *at) {
+    blocks--;
+    free(at);
+}
 
 static uint64_t seed = 1;
 
@@ -15,7 +48,8 @@ static uint64_t word(void) {
 }
 
 static uint64_t number(void) {
-    static const uint64_t near[] = {0, 1, 2, 3, 7, 8, 9, 63, 64, 65, 255, 256, 257, 264, 265, 4095, 4096, 65535, UINT32_MAX};
+    static const uint64_t near[] = {0,   1,   2,   3,   7,   8,    9,    63,    64,       65,
+                                    255, 256, 257, 264, 265, 4095, 4096, 65535, UINT32_MAX};
     uint64_t w = word();
     return w & 1 ? w >> 8 : near[(w >> 8) % (sizeof near / sizeof *near)];
 }
@@ -26,10 +60,9 @@ static void fill(void *at, size_t size) {
         bytes[i] = (unsigned char)number();
 }
 
-static unsigned long calls, codes[NVMIGRATE_LIVE + 1];
+static unsigned long codes[NVMIGRATE_LIVE + 1];
 
 static void answered(uint32_t code, const char *what) {
-    calls++;
     if (code > NVMIGRATE_LIVE) {
         printf("%s answered %u\n", what, code);
         exit(1);
@@ -109,7 +142,7 @@ static void entries(void) {
     uint32_t code = nvmigrate_admin_to_bytes(&admin, out);
     answered(code, "admin_to_bytes");
     if (code == NVMIGRATE_OK)
-        answered(nvmigrate_admin_from_bytes(out, &admin, &place) != NVMIGRATE_OK ? 99 : NVMIGRATE_OK, "admin_from_bytes");
+        answered(nvmigrate_admin_from_bytes(out, &admin, &place) != NVMIGRATE_OK ? 99 : NVMIGRATE_OK, "read back");
     if (code == NVMIGRATE_OK) { /* and with one byte of it spoilt */
         out[word() % 64] ^= 1u << word() % 8;
         CALL(nvmigrate_admin_from_bytes, admin, out, &admin, &place);
@@ -162,11 +195,13 @@ static void queues(void) {
     CALL(nvmigrate_queue_create, queue, &queue, cells, 65537);
     CALL(nvmigrate_queue_create, queue, &queue, cells, count);
     for (int i = 0; i < 12; i++) {
-        change = (struct nvmigrate_change){word() % 8 ? word() % 131072 : number(), word() % 8 ? word() % 64 + 1 : number()};
+        change.first = word() % 8 ? word() % 131072 : number();
+        change.count = word() % 8 ? word() % 64 + 1 : number();
         answered(nvmigrate_queue_post(&queue, cells, count, &change), "queue_post");
         if (word() % 2)
             CALL(nvmigrate_queue_take, queue, &queue, (const uint8_t(*)[32])cells, count, &change);
-        CALL(nvmigrate_queue_set_head, queue, &queue, (const uint8_t(*)[32])cells, count, word() % 2 ? word() % 9 : number());
+        uint32_t head = word() % 2 ? word() % 9 : number();
+        CALL(nvmigrate_queue_set_head, queue, &queue, (const uint8_t(*)[32])cells, count, head);
     }
     CALL(nvmigrate_queue_set_head, queue, &queue, (const uint8_t(*)[32])cells, SIZE_MAX, number());
     CALL(nvmigrate_queue_delete, queue, &queue);
@@ -174,23 +209,48 @@ static void queues(void) {
     nvmigrate_change_from_bytes(cells[1], &change);
 }
 
+#define SCRIPT                                                                                  \
+    "nvmigrate script 1\nblocks 32\nshelf 16\nlanes 1\nlane 1 sq 4 cq 4 pages 2\nburst 4\nmix 0\n" \
+    "change 4\nslice 4\nsmall 4\npages 4\npatience 8\n1 fill 0 5a\n1 submit 1 write 3 1 0 -\n"    \
+    "1 wait\nend\n"
+#define FRONT SCRIPT "nvmigrate transcript 1\nready\nact 1 1\nact 1 2\nfetch 1 1 0 00 1\npiece 1 1 3 1 ok\npost 1 1 0 00\n"
+
+static const char right[] = FRONT "reap 1 1 0 00 1 1\nact 1 3\nend\n";
+static const char unreaped[] = FRONT "end\n";
+
+static uint32_t judged(const void *text, size_t count) {
+    struct nvmigrate_wrong_line wrong = {0, 0};
+    uint32_t code = nvmigrate_judge(text, count, &wrong);
+    answered(code, "judge");
+    answered(blocks != 0 ? 99 : NVMIGRATE_OK, "judge's memory");
+    return code;
+}
+
 /* A right text with a byte spoilt, cut off, or of nothing but such bytes. */
 static void texts(void) {
-    static const char right[] = "nvmigrate script 1\nblocks 32\nshelf 16\nlanes 1\nlane 1 sq 4 cq 4 pages 2\nburst 4\nmix 0\n"
-                                "change 4\nslice 4\nsmall 4\npages 4\npatience 8\n1 fill 0 5a\n1 submit 1 write 3 1 0 -\n"
-                                "1 wait\nend\nnvmigrate transcript 1\nready\nact 1 1\nact 1 2\nfetch 1 1 0 00 1\n"
-                                "piece 1 1 3 1 ok\npost 1 1 0 00\nreap 1 1 0 00 1 1\nact 1 3\nend\n";
     uint8_t text[sizeof right - 1];
-    struct nvmigrate_wrong_line wrong = {0, 0};
     size_t count = word() % 4 ? sizeof text : word() % sizeof text;
     memcpy(text, right, sizeof text);
-    answered(nvmigrate_judge(text, sizeof text, &wrong) != NVMIGRATE_OK ? 99 : NVMIGRATE_OK, "judge");
     text[word() % sizeof text] = word() % 2 ? '0' + word() % 10 : number();
-    answered(nvmigrate_judge(text, count, &wrong), "judge");
-    answered(nvmigrate_judge(text, SIZE_MAX, &wrong), "judge");
+    judged(text, count);
+    judged(text, SIZE_MAX);
     if (word() % 8 == 0)
         fill(text, sizeof text);
-    answered(nvmigrate_judge(text, count, &wrong), "judge");
+    judged(text, count);
+}
+
+/* The right text, one that ends too early, and the right one with each allocation failing in turn: then there is no memory,
+ * or the judge does with less. */
+static void memory(void) {
+    answered(judged(right, sizeof right - 1) != NVMIGRATE_OK ? 99 : NVMIGRATE_OK, "judge");
+    answered(judged(unreaped, sizeof unreaped - 1) != NVMIGRATE_WRONG_COMPLETE ? 99 : NVMIGRATE_OK, "judge");
+    do {
+        fails_at++;
+        allocations = 0;
+        uint32_t code = judged(right, sizeof right - 1);
+        answered(code != NVMIGRATE_OK && code != NVMIGRATE_OUT_OF_MEMORY ? 99 : NVMIGRATE_OK, "judge's memory");
+    } while (allocations >= fails_at);
+    fails_at = 0;
 }
 
 int main(int argc, char **argv) {
@@ -202,7 +262,7 @@ int main(int argc, char **argv) {
         queues();
         texts();
     }
-    printf("%lu calls\n", calls);
+    memory();
     for (int code = 0; code <= NVMIGRATE_LIVE; code++)
         printf("code %d %s\n", code, codes[code] ? "came" : "never came");
     return 0;
