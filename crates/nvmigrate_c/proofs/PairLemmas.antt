@@ -1,12 +1,15 @@
 -- C's pairs stand for the library's.
 use Rattle.std.proofs.Common.{◌≡◌, ℕ, suc, zero, ◌+◌, ◌-◌, ◌<◌, ◌≤◌, All, List, [], ◌∷◌, ◌++◌, append_assoc, length, map, replicate, take, slice_index_or, slice_set, ap, ◌∙◌, refl, sym, subst, arith, length-append}
-use Rattle.std.proofs.lemmas.List.{drop_at, length-map, length-replicate, length-take-le, map-append, take_at, take_more, take_more_set}
-use Rattle.std.proofs.lemmas.List.Elements.{All-push}
+use Rattle.std.proofs.lemmas.List.{drop_at, length-map, length-replicate, length-take-le, map-append, take-map, take_at, take_more, take_more_set}
+use Rattle.std.proofs.lemmas.List.Elements.{All-push, All-take}
+use Rattle.std.proofs.Math.ListN.{get_or-map}
 use Rattle.std.proofs.Math.Seq.{set-append_seam}
+use Rattle.ctl_state.specs.declared.image.Image.{Image}
 use Rattle.ctl_state.specs.declared.image.PairState.{PairState}
 use Rattle.ctl_state.specs.Image.{IsImage, IsPair, none}
+use Rattle.ctl_state.specs.Parts.{IsWhole}
 use Rattle.nvmigrate_c.specs.declared.parts.Pair.{Pair}
-use Rattle.nvmigrate_c.specs.Parts.{HasRings, image_in, pair_in}
+use Rattle.nvmigrate_c.specs.Parts.{HasFlag, HasRings, image_in, pair_in}
 
 map_more : (xs : List Pair) (place : ℕ) (d : Pair) → place < length xs → map pair_in (take (place + 1) xs) ≡ map pair_in (take place xs) ++ pair_in (slice_index_or xs place d) ∷ []
 map_more xs place d there = ap (map pair_in) (take_more xs place d there) ∙ map-append pair_in (take place xs) (slice_index_or xs place d ∷ [])
@@ -53,3 +56,17 @@ image_is pairs few all =
       pairs = subst (λ (ps : List PairState). All IsPair ps) (sym (take_at states others (length pairs) count)) (all_pairs pairs all);
       others = drop_at states others (length pairs) count;
     }
+
+pub flags_more : (out : List Pair) (place : ℕ) (p : Pair) → place < length out → All HasFlag (take place out) → HasFlag p → All HasFlag (take (place + 1) (slice_set out place p))
+flags_more out place p room before is =
+    subst (λ (xs : List Pair). All HasFlag xs) (sym (take_more_set out place p room)) (All-push HasFlag (take place out) p before is)
+
+-- the pairs of a state are rings
+pub rings_are : (lanes : ℕ) (bytes : List ℕ) (out : List Pair) (image : Image) → IsWhole lanes bytes image → map pair_in out ≡ image.pairs → All HasFlag out → All HasRings (take lanes out)
+rings_are lanes bytes out image whole same flags =
+    let moved : take image.used image.pairs ≡ map pair_in (take lanes out) = (λ k. take (whole.0.used k) (sym same k)) ∙ take-map pair_in lanes out in
+    let pairs : All IsPair (map pair_in (take lanes out)) = subst (λ (ps : List PairState). All IsPair ps) moved whole.0.pairs in
+    λ k d there.
+    let within : k < length (map pair_in (take lanes out)) = omega (arith, there, length-map (take lanes out) pair_in) in
+    let is : IsPair (pair_in (slice_index_or (take lanes out) k d)) = subst IsPair (get_or-map pair_in (take lanes out) k d) (pairs k (pair_in d) within) in
+    record { sq = is.sq; cq = record { ring = is.cq; phase = All-take HasFlag lanes out flags k d there } }

@@ -1,4 +1,4 @@
-use Rattle.std.specs.Prelude.{ℕ, ◌==◌, Option, Some, None, Result, Ok, Err, if◌then◌else◌, nat_le}
+use Rattle.std.specs.Prelude.{ℕ, ◌==◌, Option, Some, None, Result, Ok, Err, cond, if◌then◌else◌, nat_le}
 use Rattle.adm_values.specs.declared.command.AdminCmd.{AdminCmd}
 use Rattle.adm_values.specs.declared.command.What.{What}
 use Rattle.adm_values.specs.declared.command.What.TheVariants.{LogUserData, TrackMemory, MemoryChanges, Suspend, Resume, SetState, GetState, CreateQueue, DeleteQueue}
@@ -27,6 +27,21 @@ with_cid cid (Some what) = Some (record { cid = cid; what = what })
 
 abbrev pub command_in : Command → Option AdminCmd
 command_in c = with_cid c.cid (what_in c)
+
+-- a command as C's struct: the numbers that it hasn't are zeroes
+abbrev pub asked_as : ℕ → What → Command
+asked_as cid (LogUserData start queue) = record { cid = cid; what = 0; start = cond start 1 0; queue = queue; max = 0; offset = 0; length = 0; cells = 0 }
+asked_as cid (TrackMemory start) = record { cid = cid; what = 1; start = cond start 1 0; queue = 0; max = 0; offset = 0; length = 0; cells = 0 }
+asked_as cid (MemoryChanges max) = record { cid = cid; what = 2; start = 0; queue = 0; max = max; offset = 0; length = 0; cells = 0 }
+asked_as cid Suspend = record { cid = cid; what = 3; start = 0; queue = 0; max = 0; offset = 0; length = 0; cells = 0 }
+asked_as cid Resume = record { cid = cid; what = 4; start = 0; queue = 0; max = 0; offset = 0; length = 0; cells = 0 }
+asked_as cid (SetState offset length) = record { cid = cid; what = 5; start = 0; queue = 0; max = 0; offset = offset; length = length; cells = 0 }
+asked_as cid (GetState offset length) = record { cid = cid; what = 6; start = 0; queue = 0; max = 0; offset = offset; length = length; cells = 0 }
+asked_as cid (CreateQueue cells) = record { cid = cid; what = 7; start = 0; queue = 0; max = 0; offset = 0; length = 0; cells = cells }
+asked_as cid (DeleteQueue queue) = record { cid = cid; what = 8; start = 0; queue = queue; max = 0; offset = 0; length = 0; cells = 0 }
+
+abbrev pub command_of : AdminCmd → Command
+command_of c = asked_as c.cid c.what
 
 abbrev pub as_read : Option AdminCmd → Option (Result AdminCmd AdminRefusal)
 as_read None = None

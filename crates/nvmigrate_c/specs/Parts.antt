@@ -29,6 +29,10 @@ pub record HasRings (p : Pair) : Type 0 where
   pub sq : IsSq p.sq
   pub cq : IsCq p.cq
 
+-- its phase tag is 0 or 1
+abbrev pub HasFlag : Pair → Type 0
+HasFlag p = p.cq.phase ≤ 1
+
 -- the state of so many pairs, which stand first among those
 abbrev pub state_of : ℕ → List Pair → Image
 state_of used pairs = record { pairs = map pair_in pairs; used = used }

@@ -2,7 +2,7 @@
 ghost use Rattle.std.specs.Prelude.{◌≡◌, ◌≢◌, ◌↔◌, IfSome, IsTrue, MatchOption, Ok, Some};
 ghost use Rattle.adm_values.specs.declared.command.AdminCmd.{AdminCmd as TheCommand};
 ghost use Rattle.adm_values.specs.Command.{IsCommand, IsInRange, Reads, command_bytes};
-ghost use Rattle.nvmigrate_c.specs.Admin.{command_in, read_told, what_in};
+ghost use Rattle.nvmigrate_c.specs.Admin.{command_in, command_of, read_told, what_in};
 
 use crate::code::{BAD_FIELD, BAD_OPCODE, BAD_SELECT, OK};
 use crate::entry::flag;
@@ -54,7 +54,8 @@ fn of_kind(cid: u16, what: u8) -> Command
 impl Command {
     /// A command of the library for C. The numbers that it hasn't are zeroes.
     fn of(command: AdminCmd) -> Command
-        ensures { command_in result ≡ Some command }
+        ensures value { result ≡ command_of command }
+        ensures back { command_in result ≡ Some command }
     {
         let cid = command.cid;
         match command.what {
@@ -187,6 +188,8 @@ pub extern "C" fn nvmigrate_admin_from_bytes(b: &[u8; 64], out: &mut Command, pl
     ensures read { MatchOption (read_told result (command_in out.new) place.new) ⊥ (λ r. Reads b.now r) }
     ensures back { (c : TheCommand) → IsCommand c → command_bytes c ≡ b.now
         → read_told result (command_in out.new) place.new ≡ Some (Ok c) }
+    // The numbers that a command hasn't are zeroes.
+    ensures plain { result ≡ OK → IfSome (command_in out.new) (λ c. out.new ≡ command_of c) }
     ensures same { result ≢ OK → out.new ≡ out.old }
     ensures place { result ≢ BAD_FIELD → place.new ≡ place.old }
 {

@@ -36,14 +36,16 @@ pub struct GuestCq {
 impl Cq {
     /// The end for C.
     fn of(ring: &CqRing) -> Cq
-        ensures { cq_in result ≡ ring.now }
+        ensures value { cq_in result ≡ ring.now }
+        ensures sound { IsCq result }
     {
         Cq::at(ring.state(), ring.phase())
     }
 
     /// The end at these places, whose next entry has that phase tag, for C.
     pub(crate) fn at(places: RingState, phase: bool) -> Cq
-        ensures { cq_in result ≡ record { ring = places; phase = phase } }
+        ensures value { cq_in result ≡ record { ring = places; phase = phase } }
+        ensures flag { result.phase ≤ 1 }
     {
         Cq {
             size: places.size,
@@ -72,8 +74,10 @@ impl Cq {
 impl GuestCq {
     /// The end for C.
     fn of(size: u16, ring: &nvm_ring::GuestCq) -> GuestCq
-        requires { size ≡ ring.now.size }
-        ensures { guest_cq_in result ≡ ring.now }
+        requires size { size ≡ ring.now.size }
+        requires range { (2 ≤ size) × (size ≤ 256) }
+        ensures value { guest_cq_in result ≡ ring.now }
+        ensures sound { IsGuest result }
     {
         GuestCq {
             size,
@@ -106,6 +110,7 @@ pub extern "C" fn nvmigrate_cq_new(size: u16, out: &mut Cq) -> u32
     ensures value { result ≡ OK
         → cq_in out.new ≡ record { ring = record { size = size; head = 0; tail = 0 }; phase = true } }
     ensures start { result ≡ OK → IsCqRing (cq_in out.new) zero_page [] 0 }
+    ensures sound { result ≡ OK → IsCq out.new }
     ensures same { result ≢ OK → out.new ≡ out.old }
 {
     if size < 2 || size > 256 {
@@ -160,6 +165,7 @@ pub extern "C" fn nvmigrate_cq_post(cq: &mut Cq, page: &mut [u8; 4096], entry: &
     ensures moved { result ≡ OK → cq_in cq.new ≡ after_post (cq_in cq.old) }
     ensures page { result ≡ OK → page.new
         ≡ written page.old (16 * cq.old.tail) (cqe_bytes (with_phase (cq.old.phase == 1) (cqe_in entry.now))) }
+    ensures sound { IsCq cq.old → IsCq cq.new }
     ensures same { result ≢ OK → (cq.new ≡ cq.old) × (page.new ≡ page.old) }
     ensures newest { IsCq cq.old → IsCqEntry entry.now
         → PostsNewest (cq_in cq.old) (cq_in cq.new) page.old page.new (cqe_in entry.now) (told result) }
@@ -195,6 +201,7 @@ pub extern "C" fn nvmigrate_cq_set_head(cq: &mut Cq, value: u16) -> u32
     ensures high { IsCq cq.old → cq.old.size ≤ value → result ≡ BAD_DOORBELL }
     ensures moved { result ≡ OK → cq_in cq.new
         ≡ record { ring = record { size = cq.old.size; head = value; tail = cq.old.tail }; phase = cq.old.phase == 1 } }
+    ensures sound { IsCq cq.old → IsCq cq.new }
     ensures same { result ≢ OK → cq.new ≡ cq.old }
     ensures rung { IsCq cq.old → TakesReaped (cq_in cq.old) (cq_in cq.new) value (told result) }
 {
@@ -220,6 +227,7 @@ pub extern "C" fn nvmigrate_guest_cq_new(size: u16, out: &mut GuestCq) -> u32
     ensures many { 256 < size → result ≡ BAD_RING }
     ensures value { result ≡ OK → guest_cq_in out.new ≡ record { size = size; head = 0; phase = true } }
     ensures start { result ≡ OK → IsGuestCq (guest_cq_in out.new) zero_page [] 0 }
+    ensures sound { result ≡ OK → IsGuest out.new }
     ensures same { result ≢ OK → out.new ≡ out.old }
 {
     if size < 2 || size > 256 {
@@ -249,6 +257,7 @@ pub extern "C" fn nvmigrate_guest_cq_reap(
     ensures entry { result ≡ OK → cqe_in out.new ≡ cqe_of (cell 16 cq.old.head page.now) }
     ensures fits { result ≡ OK → IsCqEntry out.new }
     ensures moved { result ≡ OK → guest_cq_in cq.new ≡ after_reap (guest_cq_in cq.old) }
+    ensures sound { IsGuest cq.old → IsGuest cq.new }
     ensures same { result ≢ OK → (cq.new ≡ cq.old) × (out.new ≡ out.old) }
     ensures oldest { IsGuest cq.old
         → ReapsOldest (guest_cq_in cq.old) (guest_cq_in cq.new) page.now (cqe_told result out.new) }

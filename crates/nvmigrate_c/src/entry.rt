@@ -1,5 +1,5 @@
 // Queue entries and their bytes.
-ghost use Rattle.std.specs.Prelude.{◌≡◌, ◌≢◌, ◌≤◌, ◌==◌, MatchOption};
+ghost use Rattle.std.specs.Prelude.{◌≡◌, ◌≢◌, ◌≤◌, ◌==◌, MatchOption, cond};
 ghost use Rattle.nvm_values.specs.Sqe.{count_of, fuse_of, psdt_of, slba_of, sqe_bytes, sqe_of};
 ghost use Rattle.nvm_values.specs.Cqe.{cqe_bytes, cqe_of};
 ghost use Rattle.nvmigrate_c.specs.Entries.{IsCqEntry, cqe_in, sqe_in};
@@ -139,7 +139,8 @@ impl CqEntry {
 
 /// A flag for C: 1 where it is set, and else 0.
 pub(crate) fn flag(set: bool) -> u8
-    ensures value { (result == 1) ≡ set }
+    ensures value { result ≡ cond set 1 0 }
+    ensures back { (result == 1) ≡ set }
     ensures fits { result ≤ 1 }
 {
     if set { 1 } else { 0 }

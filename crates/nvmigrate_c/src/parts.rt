@@ -3,7 +3,7 @@ ghost use Rattle.std.specs.Prelude.{◌≡◌, ◌≢◌, ◌+◌, ◌-◌, ◌*
 ghost use Rattle.ctl_state.specs.declared.image.Image.{Image as TheImage};
 ghost use Rattle.ctl_state.specs.Image.{image_bytes};
 ghost use Rattle.ctl_state.specs.Parts.{Feeds, IsWhole};
-ghost use Rattle.nvmigrate_c.specs.Parts.{HasRings, IsParts, feed_told, image_in, pair_in, parts_in, state_of};
+ghost use Rattle.nvmigrate_c.specs.Parts.{HasFlag, HasRings, IsParts, feed_told, image_in, pair_in, parts_in, state_of};
 
 use crate::code::{BAD_IMAGE, BAD_PARTS, BAD_RING, BAD_SEQUENCE, NONE, OK, TOO_LONG};
 use crate::completion::Cq;
@@ -30,7 +30,8 @@ pub struct Parts {
 impl Pair {
     /// A pair of the library for C.
     fn of(pair: PairState) -> Pair
-        ensures { pair_in result ≡ pair }
+        ensures value { pair_in result ≡ pair }
+        ensures flag { HasFlag result }
     {
         Pair {
             sq: Sq::of(pair.sq),
@@ -177,6 +178,7 @@ pub extern "C" fn nvmigrate_parts_whole(parts: &Parts, out: &mut [Pair; 8]) -> u
     ensures bad { (IsParts parts.now → ⊥) → result ≡ BAD_PARTS }
     ensures found { result ≡ OK
         → IsWhole parts.now.lanes (parts_in parts.now).bytes (state_of parts.now.lanes out.new) }
+    ensures sound { result ≡ OK → All HasRings (take parts.now.lanes out.new) }
     ensures exact { IsParts parts.now → (image : TheImage) → IsWhole parts.now.lanes (parts_in parts.now).bytes image
         → (result ≡ OK) × (state_of parts.now.lanes out.new ≡ image) }
     ensures none { IsParts parts.now
@@ -246,7 +248,8 @@ fn states_of(pairs: &[Pair]) -> Option<[PairState; 8]>
 
 /// Pairs of the library for C.
 fn put_pairs(out: &mut [Pair; 8], pairs: &[PairState; 8])
-    ensures { map pair_in out.new ≡ pairs.now }
+    ensures value { map pair_in out.new ≡ pairs.now }
+    ensures flags { All HasFlag out.new }
 {
     'pairs: for place in 0..8usize {
         out[place] = Pair::of(pairs[place]);

@@ -9,7 +9,7 @@ pub returns-clause-newest : goal.returns-clause-newest
 returns-clause-newest c = λ _ _.
     subst (λ (x : CqeFields). PostsNewest (cq_in c.args.cq.now) (cq_in c.of.result) c.args.page.now c.post.new.page x (told 0)) c.in-Some-cqe.ensures.1
     (subst (λ (s : CqState). PostsNewest s (cq_in c.of.result) c.args.page.now c.post.new.page c.in-Some-cqe.cqe (told 0)) c.in-Some.ensures.1
-    (subst (λ (s : CqState). PostsNewest c.in-Some.ring s c.args.page.now c.post.new.page c.in-Some-cqe.cqe (told 0)) (sym c.of.ensures) c.in-Ok.ensures.newest))
+    (subst (λ (s : CqState). PostsNewest c.in-Some.ring s c.args.page.now c.post.new.page c.in-Some-cqe.cqe (told 0)) (sym c.of.ensures.value) c.in-Ok.ensures.newest))
 
 pub returns-in_default-post-clause-newest : goal.returns-in_default-post-clause-newest
 returns-in_default-post-clause-newest c = λ _ _.

@@ -9,4 +9,4 @@ returns-in_default-reap-clause-oldest c = λ _.
     (subst (λ (s : GuestCqState). ReapsOldest c.in-Some.ring s c.args.page.now None) c.in_default-reap.ensures.moved c.in_default-reap.ensures.oldest)
 
 pub returns-clause-oldest : goal.returns-clause-oldest
-returns-clause-oldest c = λ _. rw (c.of.ensures.value, c.of-2.ensures, ← c.in-Some.ensures.1) c.in-Some-reap.ensures.oldest
+returns-clause-oldest c = λ _. rw (c.of.ensures.value, c.of-2.ensures.value, ← c.in-Some.ensures.1) c.in-Some-reap.ensures.oldest
