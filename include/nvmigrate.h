@@ -2,19 +2,20 @@
  * nvmigrate: proved parts of an NVMe controller for C programs.
  *
  * Every call below is an export of crates/nvmigrate_c, whose contract is proved: docs/LIBRARIES.md says in a line
- * what each promises. Sections are those of NVM Express Base 2.1.
+ * what each promises. Sections are those of NVM Express Base 2.1, by number or by name.
  *
  * What a caller owes. The proofs take it for granted, and nothing tests it:
  *  - No pointer is null. Each points to as many elements as its parameter says, aligned as C aligns them; a pointer
  *    with a count behind it to so many, and isn't null where that is 0 either.
- * - What a call writes to overlaps nothing else that is passed to the same call, and no other thread touches it
- * meanwhile.
+ *  - What a call writes to overlaps nothing else that is passed to the same call. No other thread touches it
+ *    meanwhile, nor writes to what the call reads.
  *
- * Everything else is tested: any bytes, lengths, sizes, places and doorbell values get an answer. A call that answers
- * another code than NVMIGRATE_OK leaves what it would have written as it was, unless its comment says otherwise. The
- * structs are plain numbers, which a program may keep, copy and send as it likes; each call tests those that it is
- * given. No call keeps anything between calls, and none but nvmigrate_judge allocates, or calls anything but memcpy,
- * memmove, memset and memcmp.
+ * Everything else is tested: any bytes, lengths, sizes, places and doorbell values get an answer, and a count above
+ * what a call takes is refused before anything is read there. A call that answers another code than NVMIGRATE_OK
+ * leaves what it would have written as it was, unless its comment says otherwise. The structs are plain numbers,
+ * which a program may keep, copy and send as it likes; each call tests those that it is given. No call keeps anything
+ * between calls, so any number of threads may make them at once. None but nvmigrate_judge allocates, or calls
+ * anything but memcpy, memmove and memset.
  */
 #ifndef NVMIGRATE_H
 #define NVMIGRATE_H
@@ -112,8 +113,8 @@ void nvmigrate_cqe_from_bytes(const uint8_t bytes[16], struct nvmigrate_cqe *out
 
 /* A queue stands in one page of 4,096 bytes of guest memory: a submission queue of 2 to 64 places of 64 bytes, a
  * completion queue of 2 to 256 places of 16. It is empty where head is tail, and full where the place after tail is
- * head (3.3.1). Head and tail are below the size, and a phase is 0 or 1: other numbers are NVMIGRATE_BAD_RING,
- * which each call tells before anything else. */
+ * head (Queues: Empty Queue, Full Queue). Head and tail are below the size, and a phase is 0 or 1: other numbers
+ * are NVMIGRATE_BAD_RING, which each call tells before anything else. */
 
 /* The controller's end of a submission queue, or the guest's, whose head is the one that it learnt last. */
 struct nvmigrate_sq {
@@ -142,7 +143,7 @@ uint32_t nvmigrate_sq_new(uint16_t size, struct nvmigrate_sq *out);
 uint32_t nvmigrate_cq_new(uint16_t size, struct nvmigrate_cq *out);
 uint32_t nvmigrate_guest_cq_new(uint16_t size, struct nvmigrate_guest_cq *out);
 
-/* Controller: the guest rang the tail doorbell (3.1.4, Submission Queue Tail Doorbell). NVMIGRATE_BAD_DOORBELL
+/* Controller: the guest rang the tail doorbell (Submission Queue Tail Doorbell). NVMIGRATE_BAD_DOORBELL
  * exactly where the value is the size or more. */
 uint32_t nvmigrate_sq_set_tail(struct nvmigrate_sq *sq, uint16_t value);
 
@@ -153,12 +154,12 @@ uint32_t nvmigrate_sq_fetch(struct nvmigrate_sq *sq, const uint8_t page[4096], s
  * 1. */
 uint32_t nvmigrate_cq_free(const struct nvmigrate_cq *cq, uint16_t *out);
 
-/* Controller: writes a completion behind the others, with the queue's phase tag in place of its own (4.2.4, Phase
+/* Controller: writes a completion behind the others, with the queue's phase tag in place of its own (Phase
  * Tag). NVMIGRATE_BAD_FIELD exactly where a number of it is out of its range, and else NVMIGRATE_FULL exactly where
  * no place is free. */
 uint32_t nvmigrate_cq_post(struct nvmigrate_cq *cq, uint8_t page[4096], const struct nvmigrate_cqe *entry);
 
-/* Controller: the guest rang the head doorbell (3.1.4, Completion Queue Head Doorbell). NVMIGRATE_BAD_DOORBELL
+/* Controller: the guest rang the head doorbell (Completion Queue Head Doorbell). NVMIGRATE_BAD_DOORBELL
  * exactly where the value isn't one of the places from head to tail, in ring order. */
 uint32_t nvmigrate_cq_set_head(struct nvmigrate_cq *cq, uint16_t value);
 
@@ -176,7 +177,7 @@ uint32_t nvmigrate_guest_cq_reap(struct nvmigrate_guest_cq *cq, const uint8_t pa
 
 /* ---- Admin commands of host managed live migration --------------------------------------------------------------- */
 
-/* What a command asks for (5.1, Track Send, Track Receive, Migration Send, Migration Receive and Controller Data
+/* What a command asks for (Track Send, Track Receive, Migration Send, Migration Receive and Controller Data
  * Queue), and which numbers it has. The others are ignored, and read as 0. */
 enum nvmigrate_what {
     NVMIGRATE_LOG_USER_DATA = 0,  /* start 0 or 1, queue */
@@ -219,7 +220,7 @@ struct nvmigrate_pair {
     struct nvmigrate_cq cq;
 };
 
-/* An image that comes in parts (5.1, Migration Send, Set Controller State; docs/FORMATS.md has its layout): how
+/* An image that comes in parts (Migration Send, Set Controller State; docs/FORMATS.md has its layout): how
  * many of its bytes were fed, of how many queue pairs it is, 1 to 8, and the bytes. Each call below tests that an
  * image begins so, and else answers NVMIGRATE_BAD_PARTS. */
 struct nvmigrate_parts {
@@ -249,7 +250,7 @@ uint32_t nvmigrate_image_encode(const struct nvmigrate_pair *pairs, size_t count
 
 /* ---- A user data migration queue --------------------------------------------------------------------------------- */
 
-/* The controller tells the host in it which blocks were written (5.1, Controller Data Queue; docs/FORMATS.md has an
+/* The controller tells the host in it which blocks were written (Controller Data Queue; docs/FORMATS.md has an
  * entry's 32 bytes). Its cells, 2 to 65,536 of 32 bytes, are the caller's, who passes them to each call. The places
  * of the oldest entry that isn't taken and of the next one, how many lie between, the phase tag of the next one,
  * whether an entry found no free cell, and whether the queue was created and isn't deleted. Numbers that aren't
@@ -312,7 +313,8 @@ struct nvmigrate_wrong_line {
  * bytes. NVMIGRATE_BAD_SCRIPT where there is no script in front, with the script's first line that isn't right;
  * else NVMIGRATE_WRONG_FORM, NVMIGRATE_WRONG_LEGAL or NVMIGRATE_WRONG_COMPLETE with the transcript's first line
  * that is wrong, its first line being 1. These four write *wrong. NVMIGRATE_OUT_OF_MEMORY where memory ran out:
- * this is the one call that takes some, by nvmigrate_heap.c, and all of it is given back. */
+ * this is the one call that takes some, by nvmigrate_heap.c, and all of it is given back. It isn't called from a
+ * signal handler. */
 uint32_t nvmigrate_judge(const uint8_t *text, size_t count, struct nvmigrate_wrong_line *wrong);
 
 /* ---- Layout ------------------------------------------------------------------------------------------------------ */
