@@ -6,7 +6,9 @@
 #![tactic(auto)]
 
 mod change;
+mod places;
 mod queue;
 
 pub use change::Change;
+pub use places::Places;
 pub use queue::{BadHead, DataQueue, Full};

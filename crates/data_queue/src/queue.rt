@@ -1,10 +1,10 @@
-ghost use Rattle.std.specs.Prelude.{◌≡◌, ◌+◌, ◌<◌, ◌≤◌, ◌==◌, ◌||◌, ◌&&◌, ◌++◌, ◌∷◌, [], ℕ, List, IfOk, OnErr, OnOk, cond, false, is_err, is_none, is_ok, length, nat_le, nat_lt, not, replicate, slice_get, slice_index_or, Some, true};
+ghost use Rattle.std.specs.Prelude.{◌≡◌, ◌+◌, ◌<◌, ◌≤◌, ◌==◌, ◌&&◌, [], ℕ, List, IfOk, OnErr, OnOk, false, is_err, is_none, is_ok, length, nat_le, nat_lt, not, slice_index_or, true};
 ghost use Rattle.data_queue.specs.declared.change.Change.{Change};
 ghost use Rattle.data_queue.specs.Change.{IsChange};
 ghost use Rattle.data_queue.specs.Log.{IsLog, Posted, Took, is_lost};
 ghost use Rattle.nvm_model.specs.Ring.{places_between};
 
-use crate::Change;
+use crate::{Change, Places};
 use mig_base::OutOfMemory;
 use std::alloc::Global;
 use std::marker::Model;
@@ -23,31 +23,19 @@ pub struct BadHead {
 #[derive(Drop)]
 pub struct DataQueue {
     cells: Vec<[u8; 32]>,
-    head: u32,
-    next: u32,
-    waiting: u32,
-    phase: bool,
-    marked: bool,
-    live: bool,
+    places: Places,
 }
 
 impl Model for DataQueue {
-    ghost use Rattle.std.specs.Prelude.{◌<◌, ◌≤◌, length};
+    ghost use Rattle.std.specs.Prelude.{length};
     ghost use Rattle.data_queue.specs.Log.{QueueState};
+    ghost use Rattle.data_queue.specs.Places.{ArePlaces, queue_of};
 
     ghost Value = { QueueState };
 
-    ghost view = { λ q. record {
-      cells = q.cells.items;
-      head = q.head;
-      next = q.next;
-      waiting = q.waiting;
-      phase = q.phase;
-      marked = q.marked;
-      live = q.live;
-    } };
+    ghost view = { λ q. queue_of q.places q.cells.items };
 
-    ghost invariant = { λ q. (2 ≤ length q.cells.items) × (length q.cells.items ≤ 65536) × (q.head < length q.cells.items) × (q.next < length q.cells.items) × (q.waiting ≤ length q.cells.items) };
+    ghost invariant = { λ q. ArePlaces (length q.cells.items) q.places };
 }
 
 impl DataQueue {
@@ -67,12 +55,7 @@ impl DataQueue {
         }
         Ok(DataQueue {
             cells: list,
-            head: 0,
-            next: 0,
-            waiting: 0,
-            phase: true,
-            marked: false,
-            live: false,
+            places: Places::NONE,
         })
     }
 
@@ -80,14 +63,14 @@ impl DataQueue {
     pub fn live(&self) -> bool
         ensures { result ≡ self.now.live }
     {
-        self.live
+        self.places.live
     }
 
     /// Whether an entry found no free cell since the queue was created.
     pub fn marked(&self) -> bool
         ensures { result ≡ self.now.marked }
     {
-        self.marked
+        self.places.marked
     }
 
     /// How many cells it has.
@@ -111,25 +94,15 @@ impl DataQueue {
         ensures created { result ≡ true → IsLog self.new [] 0 × (self.new.marked ≡ false) × (self.new.live ≡ true) × (length self.new.cells ≡ length self.old.cells) }
         ensures kept { result ≡ false → self.new ≡ self.old }
     {
-        if self.live {
-            return false;
-        }
-        zero_cells(&mut self.cells);
-        self.head = 0;
-        self.next = 0;
-        self.waiting = 0;
-        self.phase = true;
-        self.marked = false;
-        self.live = true;
-        true
+        self.places.create(&mut self.cells)
     }
 
     /// The queue isn't live any more; answers false where it wasn't.
     pub fn delete(&mut self) -> bool
         ensures { (result ≡ self.old.live) × (self.new ≡ record self.old { live = false }) }
     {
-        let was = self.live;
-        self.live = false;
+        let was = self.places.live;
+        self.places.live = false;
         was
     }
 
@@ -144,16 +117,7 @@ impl DataQueue {
         ensures full { is_err result ≡ is_lost self.old }
         ensures posted { Posted self.old c self.new }
     {
-        let size = self.cells.len() as u32;
-        if self.marked || self.waiting == size {
-            self.marked = true;
-            return Err(Full);
-        }
-        self.cells[self.next as usize] = c.to_bytes(self.phase);
-        self.next = (self.next + 1) % size;
-        self.phase = next_phase(self.next, self.phase);
-        self.waiting += 1;
-        Ok(())
+        self.places.post(&mut self.cells, c)
     }
 
     /// Takes the oldest entry that isn't taken: `None` exactly where there is none.
@@ -163,30 +127,7 @@ impl DataQueue {
         ensures kept { (self.new.marked ≡ self.old.marked) × (self.new.live ≡ true) × (self.new.cells ≡ self.old.cells) }
         ensures taken { (posted : List Change) (taken : ℕ) → IsLog self.old posted taken → Took result posted taken self.old self.new }
     {
-        if self.waiting == 0 {
-            return None;
-        }
-        let change = self.oldest();
-        self.head = (self.head + 1) % self.cells.len() as u32;
-        self.waiting -= 1;
-        Some(change)
-    }
-
-    /// The oldest entry that isn't taken.
-    fn oldest(&self) -> Change
-        requires { 0 < self.now.waiting }
-        ensures { (posted : List Change) (taken : ℕ) → IsLog self.now posted taken → slice_get posted taken ≡ Some result }
-    {
-        Change::from_bytes(&self.cells[self.head as usize])
-    }
-
-    /// How many places there are from the head to a place, in ring order.
-    fn places_to(&self, value: u32) -> u32
-        requires { value < length self.now.cells }
-        ensures { result ≡ places_between (length self.now.cells) self.now.head value }
-    {
-        let size = self.cells.len() as u32;
-        (value + size - self.head) % size
+        self.places.take(&self.cells)
     }
 
     /// Takes all entries before a place.
@@ -203,32 +144,6 @@ impl DataQueue {
         ensures taken { OnOk result ((posted : List Change) (taken : ℕ) → IsLog self.old posted taken
             → IsLog self.new posted (taken + places_between (length self.old.cells) self.old.head value)) }
     {
-        if value >= self.cells.len() as u32 {
-            return Err(BadHead { value });
-        }
-        let count = self.places_to(value);
-        if count > self.waiting {
-            return Err(BadHead { value });
-        }
-        self.head = value;
-        self.waiting -= count;
-        Ok(())
-    }
-}
-
-/// The phase tag turns over where a pass begins.
-fn next_phase(place: u32, phase: bool) -> bool
-    ensures { result ≡ cond (place == 0) (not phase) phase }
-{
-    if place == 0 { !phase } else { phase }
-}
-
-/// All cells become zeroes.
-fn zero_cells(cells: &mut Vec<[u8; 32]>)
-    ensures zeroes { (i : ℕ) → i < length cells.old.items → slice_index_or cells.new.items i [] ≡ replicate 32 0 }
-    ensures count { length cells.new.items ≡ length cells.old.items }
-{
-    for i in 0..cells.len() {
-        cells[i] = [0; 32];
+        self.places.set_head(&self.cells, value)
     }
 }

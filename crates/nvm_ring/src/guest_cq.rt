@@ -3,6 +3,7 @@ ghost use Rattle.nvm_values.specs.Cqe.{cqe_of};
 ghost use Rattle.nvm_model.specs.Memory.{zero_page};
 ghost use Rattle.nvm_model.specs.Ring.{cell, IsGuestCq};
 ghost use Rattle.nvm_ring.specs.Moves.{after_reap};
+ghost use Rattle.nvm_ring.specs.Places.{IsGuestRing};
 ghost use Rattle.nvm_ring.specs.Stands.{ReapsOldest};
 
 use crate::place::{completion_at, place_after, turned};
@@ -44,6 +45,21 @@ impl GuestCq {
             head: 0,
             phase: true,
         }
+    }
+
+    /// An end of a ring of from 2 to 256 places, at one of them, whose next entry has that phase tag.
+    pub fn at(size: u16, head: u16, phase: bool) -> GuestCq
+        requires { IsGuestRing 256 (record { size = size; head = head; phase = phase }) }
+        ensures { result ≡ record { size = size; head = head; phase = phase } }
+    {
+        GuestCq { size, head, phase }
+    }
+
+    /// The phase tag of the next entry.
+    pub fn phase(&self) -> bool
+        ensures { result ≡ self.now.phase }
+    {
+        self.phase
     }
 
     /// The place of the next entry, which the doorbell is rung with.

@@ -49,6 +49,14 @@ impl GuestSq {
         }
     }
 
+    /// An end at these places: from 2 to 64 of them, and tail and the head that was learnt last among them.
+    pub fn at(ring: RingState) -> GuestSq
+        requires { IsRing 64 ring }
+        ensures { result ≡ ring }
+    {
+        GuestSq { ring }
+    }
+
     /// The ring's places, with the head that was learnt last.
     pub fn state(&self) -> RingState
         ensures value { result ≡ self.now }
