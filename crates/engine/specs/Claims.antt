@@ -178,7 +178,7 @@ IsHostSize told from to TooLong = Unit {0}
 IsHostSize told from to OutOfMemory = Unit {0}
 IsHostSize told from to ReadFault = Unit {0}
 
--- a fault of the input or of the output
+-- `ReadFault` comes only where the input's count rose
 abbrev pub IsReadFault : ℕ → ℕ → Status → Type 0
 IsReadFault before now ReadFault = RisesBy 1 before now
 IsReadFault before now Done = Unit {0}
@@ -191,6 +191,7 @@ IsReadFault before now OutOfMemory = Unit {0}
 IsReadFault before now (HostSize kept asked) = Unit {0}
 IsReadFault before now WriteFault = Unit {0}
 
+-- `WriteFault` comes only where the output's count rose
 abbrev pub IsWriteFault : ℕ → ℕ → Status → Type 0
 IsWriteFault before now WriteFault = RisesBy 1 before now
 IsWriteFault before now Done = Unit {0}
@@ -220,6 +221,7 @@ OnRefused ReadFault claim = claim
 abbrev pub IsAsBefore : {M : Type 0} → Host M → Host M → Type 0
 IsAsBefore old new = (new.shelves.items ≡ old.shelves.items) × (new.ram ≡ old.ram)
 
+-- the answer is none of those that come after a run
 abbrev pub IsBeforeRun : Status → Type 0
 IsBeforeRun Done = ⊥
 IsBeforeRun GaveUp = ⊥

@@ -35,6 +35,7 @@ pub record Hosts (M : Type 0) : Type 0 where
   pub to_ram : List WindowState
   pub out : SinkState
 
+-- these of two hosts and a sink
 abbrev pub hosts : {M : Type 0} → Host M → Host M → SinkState → Hosts M
 hosts from to out = record { from = from.shelves.items; to = to.shelves.items; from_ram = from.ram; to_ram = to.ram; out = out }
 
@@ -80,6 +81,8 @@ pub record IsHistory (s : Script) (blocks : List (List ℕ)) (lines : List Line)
 -- A run that came to its end, from these blocks of the source, with these lines.
 pub record HasEnded {M I : Type 0} (state : M → MediumState I) (s : Script) (blocks : List (List ℕ)) (lines : List Line) (end : Snapshot M) (status : Status) : Type 0 where
   pub world : World
+  -- The text is a whole transcript of the script, and its events are a legal history of one controller over one array of
+  -- blocks that never moved: each fetched command once, in its queue's order.
   pub history : IsHistory s blocks lines world
   -- The events stand in turns, whose pieces have the script's order, and the migration stands where the script asks for it.
   pub turns : RunsInTurns s blocks lines world
@@ -108,12 +111,20 @@ pub record IsRun {M I : Type 0} (state : M → MediumState I) (moves : I → Ste
   pub left : AreLeft end new
   -- the stages' text went out; where the output failed, all but a rest of the last one's
   pub text : IsWritten script stages old.out.taken (is_write_fault status) new.out.taken
+  -- Each medium got exactly the calls of the stages on its host, in order: for a piece those of its blocks, up to one that
+  -- failed, at the medium of its shelf alone; for a move a mark at each, a get at the source and a put at the destination for
+  -- each block, up to one that failed, and a mark at each. No call is made again.
   pub media : AreCalled state moves script stages old new
+  -- No count of failed calls fell. What the lines show of faults is at most what the counts of both hosts rose by, where none
+  -- stands at its type's end; so a move is given up only where a medium failed.
   pub faults : HaveCauses (lines_in script stages) (faults_of state old) (faults_of state new)
   -- where no migration is asked for, the destination is as it was, with zeroed memory
   pub unmoved : script.head.migrate ≡ None → IsUntouched (start script old) end
+  -- After `Done` and `GaveUp` the last stage is the end, whatever the media tell.
   pub over : OnEnded status (IsOver end status)
+  -- And where the media of both hosts tell their blocks, all of this holds.
   pub ended : OnEnded status (IfTold state old (λ blocks. HasEnded state script blocks (lines_in script stages) end status))
+  -- After `WriteFault` so does this, of what was written and of what was done.
   pub sink : OnWriteFault status (IfTold state old (λ blocks. HasStopped state script blocks (start script old) end))
 
 -- What is known of a run before its answer is: the result says how it ended.

@@ -4,6 +4,7 @@ use Rattle.engine.specs.Built.{IsTaken, Spells}
 
 -- What a host has beside what the script asks of it: the number of shelves, and then each shelf's blocks.
 
+-- a host's sizes beside what is asked: its number of shelves, then the blocks of each
 abbrev pub sizes_of : List ℕ → ℕ → ℕ → List (ℕ × ℕ)
 sizes_of shelves count shelf = (length shelves, count) ∷ map (λ (size : ℕ). (size, shelf)) shelves
 

@@ -19,6 +19,7 @@ code_of WriteFault = 6
 code_of GaveUp = 7
 code_of (Refused line why) = 8
 
+-- the word of a cause
 abbrev pub why_text : Why → List ℕ
 why_text Form = codes ": form\n"
 why_text Range = codes ": range\n"

@@ -25,24 +25,27 @@ IsShow words = words ≡ codes "show" ∷ []
 abbrev pub IsCheck : List (List ℕ) → Type 0
 IsCheck words = words ≡ codes "check" ∷ []
 
--- words of a form, and words of none
+-- words of a form
 abbrev pub IsForm : List (List ℕ) → Type 0
 IsForm words = ((blocks : ℕ) × (shelf : ℕ) × IsRunSerial words blocks shelf) ⊎ (IsShow words ⊎ IsCheck words)
 
+-- the words are no form
 abbrev pub IsNoForm : List (List ℕ) → Type 0
 IsNoForm words = ((blocks shelf : ℕ) → IsRunSerial words blocks shelf → ⊥) × (IsShow words → ⊥) × (IsCheck words → ⊥)
 
--- what holds of a call whose words run a script, and of one whose word shows it
+-- what holds of a call whose words run a script
 abbrev pub IfRuns : List (List ℕ) → Type 0 → Type 0
 IfRuns words claim = (blocks shelf : ℕ) → IsRunSerial words blocks shelf → claim
 
+-- of a call whose words ask to show
 abbrev pub IfShows : List (List ℕ) → Type 0 → Type 0
 IfShows words claim = IsShow words → claim
 
--- of one whose word judges a transcript, and of every other
+-- of a call whose words ask to check
 abbrev pub IfChecks : List (List ℕ) → Type 0 → Type 0
 IfChecks words claim = IsCheck words → claim
 
+-- of a call whose words don't ask to check
 abbrev pub UnlessChecks : List (List ℕ) → Type 0 → Type 0
 UnlessChecks words claim = (IsCheck words → ⊥) → claim
 

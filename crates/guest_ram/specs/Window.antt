@@ -6,6 +6,7 @@ pub record WindowState : Type 0 where
   pub lane : ℕ
   pub pages : List (List ℕ)
 
+-- those behind the two queue pages
 abbrev pub data_pages : WindowState → List (List ℕ)
 data_pages w = drop 2 w.pages
 

@@ -64,6 +64,7 @@ pub record IsFirstWrong (s : Script) (text : List ℕ) (line : ℕ) (why : Fault
   pub number : line ≡ length before + 1
   pub is_fault : IsFault s before rest why
 
+-- a verdict that is true of a text: yes where it is right, no with its first wrong line and why
 abbrev pub IsVerdict : Script → List ℕ → Verdict → Type 0
 IsVerdict s text Yes = IsRight s text
 IsVerdict s text (No line why) = IsFirstWrong s text line why

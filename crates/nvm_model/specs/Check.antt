@@ -22,6 +22,7 @@ has_attributes e = not (fuse_of e == 0) || not (psdt_of e == 0)
 abbrev pub is_busy : ℕ → List ℕ → Bool
 is_busy cid busy = list_any (λ (n : ℕ). n == cid) busy
 
+-- the identifiers of commands
 abbrev pub identifiers : List Command → List ℕ
 identifiers running = map (λ (c : Command). c.cid) running
 
@@ -29,9 +30,11 @@ identifiers running = map (λ (c : Command). c.cid) running
 abbrev pub is_in_use : ℕ → List Command → Bool
 is_in_use cid running = is_busy cid (identifiers running)
 
+-- the opcode is none of the six
 abbrev pub is_unknown : Sqe → Bool
 is_unknown e = is_none (op_of e.opcode)
 
+-- opcode 00h
 abbrev pub is_flush : Sqe → Bool
 is_flush e = e.opcode == 0x00
 
@@ -43,9 +46,11 @@ has_other_namespace e = not (e.nsid == 1) && not (is_flush e && (e.nsid == 0xfff
 abbrev pub is_too_long : Sqe → Bool
 is_too_long e = nat_lt 64 (count_of e)
 
+-- the first block plus the number of blocks is above the namespace's blocks
 abbrev pub is_out_of_range : ℕ → Sqe → Bool
 is_out_of_range blocks e = nat_lt blocks (slba_of e + count_of e)
 
+-- the opcode is known, and its command moves data
 abbrev pub needs_pages : Option Op → Bool
 needs_pages None = false
 needs_pages (Some op) = moves_data op
@@ -55,6 +60,7 @@ abbrev pub is_page : ℕ → ℕ → ℕ → Bool
 is_page lane count pointer =
     nat_le (window_address lane + 8192) pointer && (((pointer % 4096) == 0) && nat_lt (pointer - window_address lane) ((count + 2) * 4096))
 
+-- the number of the data page that a pointer names, if it names one
 abbrev pub page_named : ℕ → ℕ → ℕ → Option ℕ
 page_named lane count pointer = if is_page lane count pointer then Some ((pointer - window_address lane) / 4096 - 2) else None
 
@@ -64,6 +70,7 @@ with_page i None others = Err i
 with_page i (Some page) (Ok pages) = Ok (page ∷ pages)
 with_page i (Some page) (Err place) = Err place
 
+-- the same of pointers from the first on
 abbrev pub all_named : ℕ → ℕ → ℕ → List ℕ → Result (List ℕ) ℕ
 all_named lane count i [] = Ok []
 all_named lane count i (pointer ∷ pointers) = with_page i (page_named lane count pointer) (all_named lane count (i + 1) pointers)
@@ -88,11 +95,13 @@ listed lane memory n (Some page) = all_named lane (length memory) 1 (list_entrie
 abbrev pub pages_needed : ℕ → ℕ
 pages_needed count = (count + 7) / 8
 
+-- the pages of a command's data; the first bad pointer is told: page 0, then the list page, then the entries
 abbrev pub pages_named : ℕ → List (List ℕ) → ℕ → ℕ → ℕ → Result (List ℕ) ℕ
 pages_named lane memory prp1 prp2 count =
     if nat_le (pages_needed count) 2 then all_named lane (length memory) 0 (take (pages_needed count) (prp1 ∷ prp2 ∷ []))
     else with_page 0 (page_named lane (length memory) prp1) (listed lane memory (pages_needed count - 1) (page_named lane (length memory) prp2))
 
+-- it moves data, and a pointer of it names no data page
 abbrev pub has_bad_pages : ℕ → List (List ℕ) → Sqe → Bool
 has_bad_pages lane memory e = needs_pages (op_of e.opcode) && is_err (pages_named lane memory e.prp1 e.prp2 (count_of e))
 
@@ -114,6 +123,7 @@ verdict blocks lane memory busy e = first_holding (
     ∷ (has_bad_pages lane memory e, invalid_field)
     ∷ [])
 
+-- the same where the lane's running commands say which identifiers are in use
 abbrev pub decision : ℕ → ℕ → List (List ℕ) → List Command → Sqe → Option StatusPair
 decision blocks lane memory running e = verdict blocks lane memory (identifiers running) e
 
@@ -131,6 +141,7 @@ work_of lane memory e op = record {
   done = 0;
 }
 
+-- a command that passed, none of whose pieces is done
 abbrev pub opened : ℕ → List (List ℕ) → Sqe → Option Op → Option Work
 opened lane memory e None = None
 opened lane memory e (Some op) = Some (work_of lane memory e op)
@@ -140,5 +151,7 @@ abbrev pub fetched_command : Option StatusPair → ℕ → List (List ℕ) → S
 fetched_command (Some status) lane memory e = record { cid = e.cid; status = status; work = None }
 fetched_command None lane memory e = record { cid = e.cid; status = success; work = opened lane memory e (op_of e.opcode) }
 
+-- the command that a fetch of an entry makes; its pages are found then, so a later change of the list page has no
+-- effect
 abbrev pub checked_command : ℕ → ℕ → List (List ℕ) → List Command → Sqe → Command
 checked_command blocks lane memory running e = fetched_command (decision blocks lane memory running e) lane memory e

@@ -60,6 +60,7 @@ pages_after_act lane (Raw entry) pages = pages
 pages_after_act lane Wait pages = pages
 pages_after_act lane Idle pages = pages
 
+-- a submit and a raw act submit one entry; no other act submits any
 abbrev pub submitted_by : ℕ → Act → List Sqe
 submitted_by lane (Submit cid op slba count p1 p2) = submit_entry lane cid op slba count p1 p2 ∷ []
 submitted_by lane (Raw entry) = sqe_of entry ∷ []

@@ -11,6 +11,7 @@ use Rattle.nvm_model.specs.Event.{One}
 
 -- Whole runs: what a list of lines says of one controller over one array of blocks that never moved.
 
+-- act, reap, fetch, piece and post lines are events
 abbrev pub is_event : Line → Bool
 is_event (line.Act k n) = true
 is_event (line.Reap k cid status head phase) = true
@@ -32,6 +33,7 @@ is_event line.End = false
 abbrev pub events_of : List Line → List Line
 events_of lines = filter is_event lines
 
+-- every line is one
 abbrev pub AreEvents : List Line → Type 0
 AreEvents [] = Unit {0}
 AreEvents (l ∷ lines) = IsTrue (is_event l) × AreEvents lines
@@ -45,6 +47,7 @@ Steps s w (e ∷ events) v = (u : World) × One s w e u × Steps s u events v
 abbrev pub Reaches : Script → List (List ℕ) → List Line → World → Type 0
 Reaches s blocks events w = Steps s (start_world s.head blocks) events w
 
+-- they reach some world
 abbrev pub Legal : Script → List (List ℕ) → List Line → Type 0
 Legal s blocks events = (w : World) × Reaches s blocks events w
 
@@ -53,6 +56,7 @@ pub record IsLaneComplete (s : Script) (k : ℕ) (lane : Lane) : Type 0 where
   pub acts : lane.acts ≡ length (acts_of k s.acts)
   pub quiet : IsQuiet lane
 
+-- every lane is complete
 abbrev pub Complete : Script → World → Type 0
 Complete s w = (k : ℕ) → IsLane w k → IsLaneComplete s k (lane_of w k)
 
@@ -76,6 +80,7 @@ IsEnding (line.Suspend ∷ line.GiveUp ∷ []) = Unit {0}
 IsEnding (line.Suspend ∷ line.Pause blocks pages ∷ line.ResumeTo ∷ []) = Unit {0}
 IsEnding _ = ⊥
 
+-- a migration: `migrate`, rounds, and an ending
 pub record Migrates (lines : List Line) : Type 0 where
   pub rounds : List Line
   pub ending : List Line
@@ -88,6 +93,7 @@ abbrev pub IsMigration : Option ℕ → List Line → Type 0
 IsMigration None lines = lines ≡ []
 IsMigration (Some turn) lines = Migrates lines
 
+-- a whole transcript of a script: the title, `ready`, events, the migration where one is asked for, events, `end`
 pub record IsWhole (s : Script) (lines : List Line) : Type 0 where
   pub before : List Line
   pub migration : List Line
@@ -112,6 +118,7 @@ abbrev pub is_give_up : Line → Bool
 is_give_up line.GiveUp = true
 is_give_up _ = false
 
+-- one of the lines is `give up`
 abbrev pub has_given_up : List Line → Bool
 has_given_up lines = list_any is_give_up lines
 
@@ -121,6 +128,7 @@ is_faulted Done = false
 is_faulted (Faulted at) = true
 is_faulted (Differs at) = false
 
+-- a line shows a fault where it is a piece that a fault stopped, or `give up`
 abbrev pub shows_fault : Line → Bool
 shows_fault (line.Piece k cid first count outcome digest) = is_faulted outcome
 shows_fault line.GiveUp = true
@@ -138,5 +146,6 @@ shows_fault (line.Pause blocks pages) = false
 shows_fault line.ResumeTo = false
 shows_fault line.End = false
 
+-- how many lines do
 abbrev pub faults_shown : List Line → ℕ
 faults_shown lines = count_by shows_fault lines

@@ -21,13 +21,16 @@ pub record Call : Type 0 where
   pub bytes : List ℕ
   pub failed : Bool
 
+-- a get of block b by its answer
 abbrev pub got : {T E : Type 0} → ℕ → List ℕ → Result T E → Call
 got b bytes (Ok _) = record { step = Get b; bytes = bytes; failed = false }
 got b bytes (Err _) = record { step = Get b; bytes = []; failed = true }
 
+-- a put of block b
 abbrev pub sent : ℕ → List ℕ → Bool → Call
 sent b bytes failed = record { step = Put b; bytes = bytes; failed = failed }
 
+-- a mark
 abbrev pub marked : ℕ → Call
 marked n = record { step = Mark n; bytes = []; failed = false }
 
@@ -53,6 +56,7 @@ Gives (Get b) true blocks bytes = Unit {0}
 Gives (Put b) failed blocks bytes = Unit {0}
 Gives (Mark n) failed blocks bytes = Unit {0}
 
+-- what one call does to blocks that are told
 pub record Effect (old : List (List ℕ)) (c : Call) (new : List (List ℕ)) : Type 0 where
   pub there : IsIn (length old) c.step
   pub new_is : new ≡ blocks_with c.step c.failed c.bytes old
@@ -99,6 +103,7 @@ pub record At : Type 0 where
   pub shelf : ℕ
   pub call : Call
 
+-- calls that are all of the medium at place i
 abbrev pub all_at : ℕ → List Call → List At
 all_at i calls = map (λ (c : Call). record { shelf = i; call = c }) calls
 
@@ -110,9 +115,11 @@ marks_at count n = map (λ (i : ℕ). record { shelf = i; call = marked n }) (ra
 abbrev pub told_in : {M I : Type 0} → (M → MediumState I) → List M → List (Option (List (List ℕ)))
 told_in {M} state media = map (λ (m : M). (state m).blocks) media
 
+-- in their order, how many calls of each failed
 abbrev pub faults_in : {M I : Type 0} → (M → MediumState I) → List M → List ℕ
 faults_in {M} state media = map (λ (m : M). (state m).faults) media
 
+-- in their order, how many blocks each has
 abbrev pub sizes_in : {M I : Type 0} → (M → MediumState I) → List M → List ℕ
 sizes_in {M} state media = map (λ (m : M). (state m).size) media
 
@@ -132,6 +139,7 @@ pub record HasSize {I : Type 0} (size : ℕ) (m : MediumState I) : Type 0 where
   pub size_is : m.size ≡ size
   pub told : IfSome m.blocks (λ (blocks : List (List ℕ)). length blocks ≡ size)
 
+-- so do all of these
 abbrev pub HaveSize : {M I : Type 0} → (M → MediumState I) → ℕ → List M → Type 0
 HaveSize {M} state size media = All (λ (m : M). HasSize size (state m)) media
 
@@ -141,5 +149,6 @@ flat_step size i (Get b) = Get (i * size + b)
 flat_step size i (Put b) = Put (i * size + b)
 flat_step size i (Mark n) = Mark n
 
+-- the same of a whole call
 abbrev pub flat_call : ℕ → At → Call
 flat_call size a = record a.call { step = flat_step size a.shelf a.call.step }

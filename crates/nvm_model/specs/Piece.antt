@@ -37,12 +37,15 @@ pieces_left shelf command = left command.work
 abbrev pub page_of : Pages → ℕ → ℕ
 page_of pages i = slice_index pages.list (i / 8)
 
+-- at byte 512 times i modulo 8
 abbrev pub place_of : ℕ → ℕ
 place_of i = 512 * (i % 8)
 
+-- these 512 bytes
 unfoldable pub data_block : List (List ℕ) → Pages → ℕ → List ℕ
 data_block memory pages i = take 512 (drop (place_of i) (page_at memory (page_of pages i)))
 
+-- block b of the namespace
 abbrev pub block_at : List (List ℕ) → ℕ → List ℕ
 block_at blocks b = slice_index_or blocks b []
 
@@ -69,11 +72,14 @@ ComparesTo same count Done = (i : ℕ) → i < count → same i
 ComparesTo same count (Faulted at) = (at < count) × ((i : ℕ) → i < at → same i)
 ComparesTo same count (Differs at) = (at < count) × ((i : ℕ) → i < at → same i) × (same at → ⊥)
 
+-- another command is done, or stopped by a fault within the piece, and never differs
 abbrev pub MovesTo : ℕ → Outcome → Type 0
 MovesTo count Done = Unit {0}
 MovesTo count (Faulted at) = at < count
 MovesTo count (Differs at) = ⊥
 
+-- the first for Compare, the second for Write, Read, Write Zeroes and Verify; no outcome fits a Flush, which has no
+-- pieces
 abbrev pub OutcomeFits : Op → (ℕ → Type 0) → ℕ → Outcome → Type 0
 OutcomeFits Compare same count outcome = ComparesTo same count outcome
 OutcomeFits Write same count outcome = MovesTo count outcome
@@ -92,6 +98,7 @@ blocks_after Compare pages first at n memory blocks = blocks
 blocks_after Verify pages first at n memory blocks = blocks
 blocks_after Flush pages first at n memory blocks = blocks
 
+-- a Read writes its done blocks into the lane's data pages, and no other command changes them
 abbrev pub memory_after : Op → Pages → ℕ → ℕ → ℕ → List (List ℕ) → List (List ℕ) → List (List ℕ)
 memory_after Read pages first at n memory blocks = read_blocks blocks pages first at n memory
 memory_after Write pages first at n memory blocks = memory
@@ -104,6 +111,7 @@ memory_after Flush pages first at n memory blocks = memory
 abbrev pub bytes_of : ℕ → ℕ → List (List ℕ) → List ℕ
 bytes_of first n blocks = flat_map (λ (block : List ℕ). block) (take n (drop first blocks))
 
+-- for a Read the SHA-256 of its done blocks' bytes in order, and no digest for another command
 abbrev pub digest_after : Op → ℕ → ℕ → List (List ℕ) → Option (List ℕ)
 digest_after Read first n blocks = Some (sha256 (bytes_of first n blocks))
 digest_after Write first n blocks = None
@@ -123,6 +131,7 @@ outcome_status Compare (Faulted at) = read_error
 outcome_status Verify (Faulted at) = read_error
 outcome_status Flush (Faulted at) = success
 
+-- type 0 and code 00h
 abbrev pub is_success : StatusPair → Bool
 is_success status = (status.0 == 0) && (status.1 == 0)
 

@@ -73,6 +73,7 @@ pub record IsGuestCq (cq : GuestCqState) (page : List ℕ) (posted : List CqeFie
 abbrev pub due_entries : ℕ → ℕ → List (List ℕ) → List (ℕ × List ℕ)
 due_entries size place entries = filter (λ (e : ℕ × List ℕ). e.0 % size == place) (enumerate_from 0 entries)
 
+-- an entry of these, or zeroes where there is none
 abbrev pub entry_or_zeroes : ℕ → Option (ℕ × List ℕ) → List ℕ
 entry_or_zeroes bytes None = replicate bytes 0
 entry_or_zeroes bytes (Some e) = e.1

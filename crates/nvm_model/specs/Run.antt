@@ -36,6 +36,7 @@ pub data Order : Type 0 where
   -- by threads, each lane's in its order
   Free : Order
 
+-- a script, and in which order its pieces are done
 pub record Task : Type 0 where
   pub script : Script
   pub order : Order
@@ -52,6 +53,7 @@ pub record PieceCalled : Type 0 where
   pub digest : Option (List ℕ)
   pub calls : List At
 
+-- the line that tells it
 abbrev pub piece_line : PieceCalled → Line
 piece_line p = line.Piece p.lane p.cid p.first p.count p.outcome p.digest
 
@@ -104,6 +106,7 @@ MayBeNext task drawn lanes k = may task.order
     may Serial = k ≡ next_lane task.script.head.mix drawn (map (left_in task.script.head.shelf) lanes)
     may Free = Unit {0}
 
+-- a piece of a lane that may be next, whose calls the media got
 pub record IsPiece {M I : Type 0} (state : M → MediumState I) (moves : I → Step → Bool → I → Type 0) (task : Task) (old : Here M) (p : PieceCalled) (new : Here M) : Type 0 where
   pub there : (1 ≤ p.lane) × (p.lane ≤ length old.lanes)
   pub next : MayBeNext task old.drawn old.lanes p.lane
@@ -122,9 +125,11 @@ pub record TurnDone : Type 0 where
   pub pieces : List PieceCalled
   pub posts : List Line
 
+-- its lines, in their order
 abbrev pub turn_lines : TurnDone → List Line
 turn_lines t = t.plan ++ (map piece_line t.pieces ++ t.posts)
 
+-- the calls of its pieces, in their order
 abbrev pub turn_calls : TurnDone → List At
 turn_calls t = flat_map (λ (p : PieceCalled). p.calls) t.pieces
 
@@ -145,6 +150,7 @@ pub record IsTurn {M I : Type 0} (state : M → MediumState I) (moves : I → St
 
 -- Copies.
 
+-- how the copy of a block ended
 pub data CopyEnd : Type 0 where
   Copied : CopyEnd
   NotRead : CopyEnd
@@ -160,9 +166,11 @@ pub record Copy : Type 0 where
 abbrev pub at_block : ℕ → ℕ → (ℕ → Call) → At
 at_block shelf b call = record { shelf = b / shelf; call = call (b % shelf) }
 
+-- a get of block b of a shelf
 abbrev pub get_of : List ℕ → Bool → ℕ → Call
 get_of bytes failed b = record { step = Get b; bytes = bytes; failed = failed }
 
+-- a put of block b of a shelf
 abbrev pub put_of : List ℕ → Bool → ℕ → Call
 put_of bytes failed b = record { step = Put b; bytes = bytes; failed = failed }
 
@@ -175,6 +183,7 @@ gets_of shelf c = of c.ended
     of NotRead = at_block shelf c.block (get_of [] true) ∷ []
     of NotWritten = at_block shelf c.block (get_of c.bytes false) ∷ []
 
+-- at the other side: none where the block wasn't read
 abbrev pub puts_of : ℕ → Copy → List At
 puts_of shelf c = of c.ended
   where
@@ -195,6 +204,7 @@ left_calls s copies = marks_at (media_count s) 1 ++ (flat_map (gets_of s.head.sh
 abbrev pub taken_calls : Script → List Copy → List At
 taken_calls s copies = marks_at (media_count s) 1 ++ (flat_map (puts_of s.head.shelf) copies ++ marks_at (media_count s) 2)
 
+-- no call of these copies failed
 abbrev pub AllCopied : List Copy → Type 0
 AllCopied copies = AllByRecursion (λ (c : Copy). c.ended ≡ Copied) copies
 
@@ -219,6 +229,7 @@ all_blocks s = range_with_len 0 s.head.blocks
 
 -- Stages.
 
+-- the other one of the two sides
 abbrev pub opposite : Side → Side
 opposite Source = Destination
 opposite Destination = Source
@@ -232,6 +243,7 @@ pub data Stage : Type 0 where
   GiveUp : Side → List Copy → Stage
   End : Stage
 
+-- the lines that a stage writes
 abbrev pub lines_of : Script → Stage → List Line
 lines_of s Title = line.Title ∷ line.Ready ∷ []
 lines_of s (Turn side t) = turn_lines t
@@ -240,6 +252,7 @@ lines_of s (Resume side copies) = line.Pause s.head.blocks (window_pages s.head)
 lines_of s (GiveUp side copies) = line.GiveUp ∷ []
 lines_of s End = line.End ∷ []
 
+-- those of several, one after another
 abbrev pub lines_in : Script → List Stage → List Line
 lines_in s stages = flat_map (lines_of s) stages
 
@@ -282,6 +295,7 @@ pub record Snapshot (M : Type 0) : Type 0 where
   pub left : List (List (List ℕ))
   pub out : SinkState
 
+-- its lanes and the media on which they stand
 abbrev pub here : {M : Type 0} → Snapshot M → Here M
 here t = record { lanes = t.lanes; media = t.at; drawn = t.drawn }
 
@@ -289,6 +303,7 @@ here t = record { lanes = t.lanes; media = t.at; drawn = t.drawn }
 abbrev pub memory_of : Script → List Lane → List (List (List ℕ))
 memory_of s lanes = lane_windows s.head 1 lanes
 
+-- the lanes of a script before anything was done
 abbrev pub start_lanes : Script → List Lane
 start_lanes s = (start_world s.head []).lanes
 
@@ -308,6 +323,7 @@ start_of task from to out = record {
   out = out;
 }
 
+-- each lane of the snapshot is complete
 abbrev pub AreComplete : {M : Type 0} → Snapshot M → Type 0
 AreComplete t = Complete t.task.script (among t.lanes)
 
@@ -320,10 +336,12 @@ pub record IsDue {M : Type 0} (t : Snapshot M) : Type 0 where
 
 -- What each stage does.
 
+-- the first two lines are due
 pub record IsTitle {M : Type 0} (old new : Snapshot M) : Type 0 where
   pub was : old.phase ≡ New
   pub after : new ≡ record old { phase = Running; out = new.out }
 
+-- a turn was done on the side on which the guests stand, where no move is due
 pub record TakesTurn {M I : Type 0} (state : M → MediumState I) (moves : I → Step → Bool → I → Type 0) (old : Snapshot M) (side : Side) (t : TurnDone) (new : Snapshot M) : Type 0 where
   pub was : old.phase ≡ Running
   pub stands : side ≡ old.side
@@ -331,6 +349,7 @@ pub record TakesTurn {M I : Type 0} (state : M → MediumState I) (moves : I →
   pub turn : IsTurn state moves old.task (here old) t (here new)
   pub after : new ≡ record old { turns = old.turns + 1; drawn = new.drawn; lanes = new.lanes; at = new.at; out = new.out }
 
+-- a move that is due was begun, and the guests are suspended
 pub record IsBegin {M : Type 0} (old new : Snapshot M) : Type 0 where
   pub was : old.phase ≡ Running
   pub due : IsDue old
@@ -354,12 +373,14 @@ pub record IsGiveUp {M I : Type 0} (state : M → MediumState I) (moves : I → 
   pub puts : Chain (IsAt state moves) old.other (taken_calls old.task.script copies) new.other
   pub after : new ≡ record old { phase = Running; at = new.at; other = new.other; out = new.out }
 
+-- all is complete, and no move is due
 pub record IsEnd {M : Type 0} (old new : Snapshot M) : Type 0 where
   pub was : old.phase ≡ Running
   pub not_due : IsDue old → ⊥
   pub complete : AreComplete old
   pub after : new ≡ record old { phase = Over; out = new.out }
 
+-- one stage leads from a snapshot to the next
 abbrev pub IsStage : {M I : Type 0} → (M → MediumState I) → (I → Step → Bool → I → Type 0) → Snapshot M → Stage → Snapshot M → Type 0
 IsStage state moves old Title new = IsTitle old new
 IsStage state moves old (Turn side t) new = TakesTurn state moves old side t new
@@ -388,5 +409,6 @@ pub record Went {M I : Type 0} (state : M → MediumState I) (moves : I → Step
 abbrev pub media_at : {M : Type 0} → Side → Snapshot M → List M
 media_at who t = by_side who t.side t.at t.other
 
+-- the memory of a side
 abbrev pub memory_at : {M : Type 0} → Side → Snapshot M → List (List (List ℕ))
 memory_at who t = by_side who t.side (memory_of t.task.script t.lanes) t.left

@@ -13,6 +13,7 @@ use Rattle.nvm_model.specs.World.{set_of}
 
 -- A script's text. Each script has one.
 
+-- the line of lane k
 abbrev pub lane_line : ℕ → LaneSet → List ℕ
 lane_line k set = codes "lane " ++ field k ++ codes "sq " ++ field set.sq ++ codes "cq " ++ field set.cq ++ codes "pages " ++ last_field set.pages
 
@@ -21,10 +22,12 @@ abbrev pub lane_lines : ℕ → List LaneSet → List ℕ
 lane_lines k [] = []
 lane_lines k (set ∷ sets) = lane_line k set ++ lane_lines (k + 1) sets
 
+-- the line of a migration, where one is asked for
 abbrev pub migrate_line : Option ℕ → List ℕ
 migrate_line None = []
 migrate_line (Some turn) = codes "migrate " ++ last_field turn
 
+-- the lines of the head, in their order
 abbrev pub head_text : Head → List ℕ
 head_text h =
     codes "nvmigrate script 1\n"
@@ -41,6 +44,7 @@ head_text h =
     ++ (codes "patience " ++ last_field h.patience)
     ++ migrate_line h.migrate
 
+-- the word of a command
 abbrev pub op_word : Op → List ℕ
 op_word Flush = codes "flush "
 op_word Write = codes "write "
@@ -64,21 +68,26 @@ act_text (Raw entry) = codes "raw " ++ encode_lower entry ++ codes "\n"
 act_text Wait = codes "wait\n"
 act_text Idle = codes "idle\n"
 
+-- the line of an act, its lane first
 abbrev pub act_line : ℕ × Act → List ℕ
 act_line a = field a.0 ++ act_text a.1
 
+-- the head, the acts, and the line `end`
 abbrev pub script_text : Script → List ℕ
 script_text s = head_text s.head ++ flat_map act_line s.acts ++ codes "end\n"
 
 -- What the numbers of a script may be.
 
+-- a lane's sizes are in their ranges
 abbrev pub IsSet : LaneSet → Type 0
 IsSet set = (2 ≤ set.sq) × (set.sq ≤ 64) × (2 ≤ set.cq) × (set.cq ≤ 256) × (1 ≤ set.pages) × (set.pages ≤ 256)
 
+-- so is the turn before which a migration is asked for
 abbrev pub IsTurn : Option ℕ → Type 0
 IsTurn None = Unit {0}
 IsTurn (Some turn) = (1 ≤ turn) × (turn ≤ 65535)
 
+-- a head's numbers are in their ranges
 pub record IsHead (h : Head) : Type 0 where
   pub blocks : (1 ≤ h.blocks) × (h.blocks ≤ 131072)
   pub shelf : (1 ≤ h.shelf) × (h.shelf ≤ 65536)
@@ -112,9 +121,11 @@ IsAct pages (Raw entry) = (length entry ≡ 64) × All (λ byte. byte < 2 ^ 8) e
 IsAct pages Wait = Unit {0}
 IsAct pages Idle = Unit {0}
 
+-- the lane is there, and its act is in its ranges
 abbrev pub IsActLine : Head → ℕ × Act → Type 0
 IsActLine h a = (1 ≤ a.0) × (a.0 ≤ h.lanes) × IsAct (set_of h a.0).pages a.1
 
+-- head and acts are in range, and there are at most 65,536 acts
 pub record IsScript (s : Script) : Type 0 where
   pub head : IsHead s.head
   pub acts : AllByRecursion (IsActLine s.head) s.acts

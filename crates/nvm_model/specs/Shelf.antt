@@ -12,6 +12,7 @@ use Rattle.nvm_model.specs.Piece.{OutcomeFits, block_at, data_block, done_blocks
 unfoldable pub no_digest : List ℕ
 no_digest = replicate 32 0
 
+-- a digest's bytes, and 32 zeroes where there is none
 abbrev pub digest_bytes : Option (List ℕ) → List ℕ
 digest_bytes None = no_digest
 digest_bytes (Some digest) = digest
@@ -41,6 +42,7 @@ joined (Some blocks ∷ shelves) = option_map (λ others. blocks ++ others) (joi
 abbrev pub AreShelves : ℕ → List (List (List ℕ)) → Type 0
 AreShelves size shelves = All (λ (shelf : List (List ℕ)). length shelf ≡ size) shelves
 
+-- the i-th of these
 abbrev pub shelf_at : List (List (List ℕ)) → ℕ → List (List ℕ)
 shelf_at shelves i = slice_index_or shelves i []
 

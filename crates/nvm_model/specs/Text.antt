@@ -13,6 +13,7 @@ use Rattle.nvm_model.specs.declared.line.Line.TheVariants as line
 abbrev pub field : ℕ → List ℕ
 field n = decimal n ++ 32 ∷ []
 
+-- a number in decimal, and a line feed
 abbrev pub last_field : ℕ → List ℕ
 last_field n = decimal n ++ 10 ∷ []
 
@@ -25,15 +26,18 @@ abbrev pub bit : Bool → ℕ
 bit true = 1
 bit false = 0
 
+-- an outcome: `ok`, `fault J` or `differs J`
 abbrev pub outcome_text : Outcome → List ℕ
 outcome_text Done = codes "ok"
 outcome_text (Faulted at) = codes "fault " ++ decimal at
 outcome_text (Differs at) = codes "differs " ++ decimal at
 
+-- a digest as 64 hexadecimal digits, or nothing
 abbrev pub digest_text : Option (List ℕ) → List ℕ
 digest_text None = 10 ∷ []
 digest_text (Some digest) = 32 ∷ encode_lower digest ++ 10 ∷ []
 
+-- the one text of a line
 abbrev pub line_text : Line → List ℕ
 line_text line.Title = codes "nvmigrate transcript 1\n"
 line_text line.Ready = codes "ready\n"
@@ -55,14 +59,17 @@ line_text line.End = codes "end\n"
 abbrev pub IsEventOf : ℕ → ℕ → Type 0
 IsEventOf k cid = (1 ≤ k) × (k ≤ 8) × (cid < 2 ^ 16)
 
+-- a type up to 7 and a code of 8 bits
 abbrev pub IsStatus : StatusPair → Type 0
 IsStatus status = (status.0 ≤ 7) × (status.1 < 2 ^ 8)
 
+-- its place has 32 bits
 abbrev pub IsOutcome : Outcome → Type 0
 IsOutcome Done = Unit {0}
 IsOutcome (Faulted at) = at < 2 ^ 32
 IsOutcome (Differs at) = at < 2 ^ 32
 
+-- it has 32 bytes
 abbrev pub IsDigest : Option (List ℕ) → Type 0
 IsDigest None = Unit {0}
 IsDigest (Some digest) = (length digest ≡ 32) × All (λ byte. byte < 2 ^ 8) digest
@@ -74,6 +81,7 @@ DigestMayStand (Differs at) None = Unit {0}
 DigestMayStand Done digest = Unit {0}
 DigestMayStand (Faulted at) digest = Unit {0}
 
+-- every number of a line is in its range, and it has the form
 abbrev pub IsLine : Line → Type 0
 IsLine (line.Act k n) = (1 ≤ k) × (k ≤ 8) × (n < 2 ^ 32)
 IsLine (line.Reap k cid status head phase) = IsEventOf k cid × IsStatus status × (head < 2 ^ 32)
@@ -91,6 +99,7 @@ IsLine line.ResumeTo = Unit {0}
 IsLine line.GiveUp = Unit {0}
 IsLine line.End = Unit {0}
 
+-- the texts of lines, one after another
 abbrev pub text_of : List Line → List ℕ
 text_of lines = flat_map line_text lines
 

@@ -59,6 +59,7 @@ abbrev pub SidesHold : {M I : Type 0} → (M → MediumState I) → Script → L
 SidesHold state s blocks None t w = Holds state s Source t w × (memory_at Destination t ≡ memory_of s (start_lanes s))
 SidesHold state s blocks (Some before) t w = (v : World) × Reaches s blocks before v × Holds state s Source t v × Holds state s Destination t w
 
+-- whether a side is the source
 abbrev pub is_source : Side → Bool
 is_source Source = true
 is_source Destination = false
@@ -78,6 +79,7 @@ pub record HasRun {M I : Type 0} (state : M → MediumState I) (s : Script) (blo
 
 -- A run that stopped where the sink failed.
 
+-- whether a line is `migrate`
 abbrev pub is_migrate : Line → Bool
 is_migrate line.Migrate = true
 is_migrate _ = false

@@ -22,6 +22,7 @@ pub data Kind : Type 0 where
   Piece : Kind
   Post : Kind
 
+-- a line is an event of this kind
 abbrev pub IsKind : Kind → Line → Type 0
 IsKind kind l = is kind l
   where
@@ -101,6 +102,7 @@ pub record Works (s : Script) (w : World) (events : List Line) (v : World) : Typ
   pub steps : Steps s w events v
   pub all : AllByRecursion (λ (lane : Lane). AllByRecursion (λ (c : Command). pieces_left s.head.shelf c ≡ 0) lane.running) v.lanes
 
+-- a turn: plans of all lanes, pieces until none is left, posts of all lanes
 pub record Turn (s : Script) (w : World) (events : List Line) (v : World) : Type 0 where
   pub plan : List Line
   pub pieces : List Line
@@ -120,6 +122,7 @@ abbrev pub word_state : ℕ → ℕ → ℕ
 word_state seed zero = seed
 word_state seed (suc n) = (mix_u64 (word_state seed n)).1
 
+-- word n of that seed, from 0
 abbrev pub word_at : ℕ → ℕ → ℕ
 word_at seed n = (mix_u64 (word_state seed n)).0
 
@@ -127,6 +130,7 @@ word_at seed n = (mix_u64 (word_state seed n)).0
 abbrev pub left_in : ℕ → Lane → ℕ
 left_in shelf lane = sum (map (pieces_left shelf) lane.running)
 
+-- the same for each lane of a world
 abbrev pub lefts : Script → World → List ℕ
 lefts s w = map (left_in s.head.shelf) w.lanes
 
@@ -159,6 +163,7 @@ pub record SerialTurn (s : Script) (n : ℕ) (w : World) (events : List Line) (v
   pub due : Complete s w → ⊥
   pub some : events ≡ [] → ⊥
 
+-- 1 for a piece line and 0 for another
 abbrev pub piece_number : Line → ℕ
 piece_number (line.Piece k cid first count outcome digest) = 1
 piece_number _ = 0

@@ -24,6 +24,7 @@ pub record Lane : Type 0 where
   pub posted : List Completion
   pub reaped : ℕ
 
+-- the blocks of the one namespace, and the lanes
 pub record World : Type 0 where
   -- the namespace, 512 bytes a block
   pub blocks : List (List ℕ)
@@ -38,9 +39,11 @@ new_lane pages = record { pages = replicate pages zero_page; acts = 0; submitted
 abbrev pub start_world : Head → List (List ℕ) → World
 start_world head blocks = record { blocks = blocks; lanes = map (λ (set : LaneSet). new_lane set.pages) (take head.lanes head.sets) }
 
+-- the number is from 1 to the number of lanes
 abbrev pub IsLane : World → ℕ → Type 0
 IsLane w k = (1 ≤ k) × (k ≤ length w.lanes)
 
+-- the lane of a number, and a new lane without pages where there is none
 abbrev pub lane_of : World → ℕ → Lane
 lane_of w k = slice_index_or w.lanes (k - 1) (new_lane 0)
 

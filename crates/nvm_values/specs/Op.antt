@@ -8,6 +8,7 @@ op_of opcode =
     if opcode == 0x00 then Some Flush else (if opcode == 0x01 then Some Write else (if opcode == 0x02 then Some Read else (
     if opcode == 0x05 then Some Compare else (if opcode == 0x08 then Some WriteZeroes else (if opcode == 0x0c then Some Verify else None)))))
 
+-- the opcode of a command
 abbrev pub opcode_of : Op → ℕ
 opcode_of Flush = 0x00
 opcode_of Write = 0x01

@@ -6,12 +6,15 @@ use Rattle.nvm_values.specs.declared.sqe.Sqe.{Sqe}
 abbrev pub fuse_of : Sqe → ℕ
 fuse_of e = e.flags % 4
 
+-- PSDT: bits 7:6 of byte 1
 abbrev pub psdt_of : Sqe → ℕ
 psdt_of e = e.flags / 64
 
+-- the first block: dword 10 plus dword 11 times 2 to the 32
 abbrev pub slba_of : Sqe → ℕ
 slba_of e = e.cdw10 + e.cdw11 * 4294967296
 
+-- the number of blocks: bits 15:0 of dword 12, plus 1
 abbrev pub count_of : Sqe → ℕ
 count_of e = e.cdw12 % 65536 + 1
 

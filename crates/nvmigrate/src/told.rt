@@ -4,22 +4,27 @@ const HELP: &str = "\
 nvmigrate: a software NVMe controller whose runs are proved to be legal histories
 
 nvmigrate run serial BLOCKS SHELF
-    reads a script from standard input, runs its guest on one thread over
+    reads a script from standard input, runs its guests on one thread over
     two hosts, each with BLOCKS blocks of 512 zero bytes in shelves of SHELF
-    blocks, moves it from one to the other where the script asks for that,
+    blocks, moves them from one to the other where the script asks for that,
     and writes the transcript to standard output. BLOCKS is from 1 to 131072,
     SHELF from 1 to 65536, SHELF divides BLOCKS, and there are at most 64
     shelves.
+    example: nvmigrate run serial 32 16 < tests/cases/example_move/stdin
 nvmigrate show
     reads a script from standard input, and writes what it asks for and the
     Identify data that its guests see. Nothing is run.
+    example: nvmigrate show < tests/cases/example_show/stdin
 nvmigrate check
     reads a script and a transcript behind it from standard input, and judges
     the transcript: `yes`, or `no LINE WHY` with its first line that is wrong.
+    example: nvmigrate check < tests/cases/example_judged/stdin
 nvmigrate --help
     writes this text.
+    example: nvmigrate --help
 nvmigrate --version
     writes the version.
+    example: nvmigrate --version
 
 exit status
     0  done

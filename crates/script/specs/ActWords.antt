@@ -11,6 +11,7 @@ use Rattle.script.specs.Words.{◌>>=◌, next, last, number_in, ranged_in, page
 
 -- ---- what stands behind an act's word
 
+-- a fill: a page and a byte
 unfoldable pub fill_in : ℕ → List (List ℕ) → Option Act
 fill_in pages ws = do
   w ← next ws
@@ -19,9 +20,11 @@ fill_in pages ws = do
   byte ← bytes_in 1 v
   Some (Fill page (slice_index byte 0))
 
+-- a place in a page that leaves room for so many bytes
 abbrev pub place_in : ℕ → List ℕ → Option ℕ
 place_in used w = ranged_in 0 (4096 - used) w
 
+-- a poke: a page, a place and from 1 to 32 bytes
 unfoldable pub poke_in : ℕ → List (List ℕ) → Option Act
 poke_in pages ws = do
   w ← next ws
@@ -35,6 +38,7 @@ unfoldable pub pages_on : ℕ → List ℕ → ℕ → List (List ℕ) → Optio
 pages_on pages found used [] = Some (found, used)
 pages_on pages found used (w ∷ ws) = if nat_lt used 8 then (page_in pages w >>= λ p. pages_on pages (slice_set found used p) (used + 1) ws) else None
 
+-- a list: a page and from 1 to 8 pages
 unfoldable pub list_in : ℕ → List (List ℕ) → Option Act
 list_in pages ws = do
   w ← next ws
@@ -51,6 +55,7 @@ pub record SubmitWords : Type 0 where
   pub p1 : List ℕ
   pub p2 : List ℕ
 
+-- the words of a submit, where there are six
 abbrev pub submit_words : List (List ℕ) → Option SubmitWords
 submit_words ws = do
   a ← next ws
@@ -61,6 +66,7 @@ submit_words ws = do
   f ← last e.1
   Some (record { cid = a.0; op = b.0; slba = c.0; count = d.0; p1 = e.0; p2 = f })
 
+-- a submit by its words
 abbrev pub submit_of : ℕ → SubmitWords → Option Act
 submit_of pages w = do
   cid ← ranged_in 0 65535 w.cid
@@ -71,9 +77,11 @@ submit_of pages w = do
   p2 ← option_in pages w.p2
   Some (Submit cid op slba count p1 p2)
 
+-- a submit: identifier, command, first block, number of blocks, and two pages or none
 unfoldable pub submit_in : ℕ → List (List ℕ) → Option Act
 submit_in pages ws = submit_words ws >>= submit_of pages
 
+-- a raw act: 64 bytes
 unfoldable pub raw_in : List (List ℕ) → Option Act
 raw_in ws = do
   w ← last ws
@@ -85,6 +93,7 @@ abbrev pub bare_in : List ℕ → Option (List ℕ × List (List ℕ)) → Optio
 bare_in kind None = if bytes_eq kind (codes "wait") then Some Wait else if bytes_eq kind (codes "idle") then Some Idle else None
 bare_in kind (Some x) = None
 
+-- an act by its word and those behind it
 unfoldable pub act_in : ℕ → List ℕ → List (List ℕ) → Option Act
 act_in pages kind ws =
     if bytes_eq kind (codes "fill") then fill_in pages ws
@@ -120,6 +129,7 @@ abbrev pub kind_form : Option (List ℕ × List (List ℕ)) → Bool
 kind_form None = false
 kind_form (Some x) = act_form x.0 x.1
 
+-- the forms of a lane's number and of what stands behind it
 abbrev pub lane_form : Option (List ℕ × List (List ℕ)) → Bool
 lane_form None = false
 lane_form (Some x) = is_numeral x.0 && kind_form (next x.1)

@@ -13,6 +13,7 @@ use Rattle.script.specs.Lines.{is_due, due_at}
 
 -- Which line of a text is the first that isn't right, and why.
 
+-- bytes without a line feed
 abbrev pub HasNoFeed : List ℕ → Type 0
 HasNoFeed text = cut_at 10 text ≡ None
 
@@ -34,6 +35,7 @@ IsStart front = (blocks : ℕ) × (1 ≤ blocks) × (blocks ≤ 131072) × (fron
 abbrev pub BeginsOf : ℕ → List ℕ → Type 0
 BeginsOf lanes front = IsStart front ⊎ ((s : Script) × IsScript s × (s.head.lanes ≡ lanes) × (rest : List ℕ) × (script_text s ≡ front ++ rest))
 
+-- these lines begin a script, or are the title and the lines of a head up to a right number
 abbrev pub Begins : List ℕ → Type 0
 Begins front = (lanes : ℕ) × BeginsOf lanes front
 

@@ -8,6 +8,7 @@ use Rattle.script.specs.declared.key.Due.TheVariants.{Number, Lane, Behind}
 
 -- The numbers of a head: the word before each, and its range, which the numbers before it may decide.
 
+-- the word of a head's number
 abbrev pub key_word : Key → List ℕ
 key_word Blocks = codes "blocks"
 key_word Shelf = codes "shelf"
@@ -20,6 +21,7 @@ key_word Small = codes "small"
 key_word Pages = codes "pages"
 key_word Patience = codes "patience"
 
+-- that number of a head
 abbrev pub number : Key → Head → ℕ
 number Blocks h = h.blocks
 number Shelf h = h.shelf
@@ -32,6 +34,7 @@ number Small h = h.small
 number Pages h = h.pages
 number Patience h = h.patience
 
+-- a head with that number
 abbrev pub with_number : Key → ℕ → Head → Head
 with_number Blocks n h = record h { blocks = n }
 with_number Shelf n h = record h { shelf = n }
@@ -44,6 +47,7 @@ with_number Small n h = record h { small = n }
 with_number Pages n h = record h { pages = n }
 with_number Patience n h = record h { patience = n }
 
+-- the least that it may be
 abbrev pub lowest : Key → Head → ℕ
 lowest Blocks h = 1
 lowest Shelf h = 1
@@ -56,6 +60,7 @@ lowest Small h = h.slice
 lowest Pages h = 1
 lowest Patience h = 1
 
+-- the most that it may be
 abbrev pub highest : Key → Head → ℕ
 highest Blocks h = 131072
 highest Shelf h = 65536
@@ -77,6 +82,7 @@ are_shelves key n h = true
 abbrev pub no_set : LaneSet
 no_set = record { sq = 0; cq = 0; pages = 0 }
 
+-- a head of which no line was read
 abbrev pub no_head : Head
 no_head = record { blocks = 0; shelf = 0; lanes = 0; sets = replicate 8 no_set; burst = 0; mix = 0; change = 0; slice = 0; small = 0; pages = 0; patience = 0; migrate = None }
 
@@ -84,6 +90,7 @@ no_head = record { blocks = 0; shelf = 0; lanes = 0; sets = replicate 8 no_set; 
 abbrev pub later_keys : List Key
 later_keys = Burst ∷ Mix ∷ Change ∷ Slice ∷ Small ∷ Pages ∷ Patience ∷ []
 
+-- the keys whose lines come before those of the lanes
 abbrev pub first_keys : List Key
 first_keys = Blocks ∷ Shelf ∷ Lanes ∷ []
 

@@ -20,6 +20,7 @@ Reads view None read = read ≡ None
 
 -- ---- words
 
+-- a byte before what was cut
 abbrev pub behind : ℕ → Option (List ℕ × List ℕ) → Option (List ℕ × List ℕ)
 behind c None = None
 behind c (Some x) = Some (c ∷ x.0, x.1)
@@ -29,6 +30,7 @@ unfoldable pub cut_at : ℕ → List ℕ → Option (List ℕ × List ℕ)
 cut_at end [] = None
 cut_at end (c ∷ cs) = if c == end then Some ([], cs) else behind c (cut_at end cs)
 
+-- a byte before the first word
 abbrev pub first_longer : ℕ → List (List ℕ) → List (List ℕ)
 first_longer c [] = (c ∷ []) ∷ []
 first_longer c (w ∷ ws) = (c ∷ w) ∷ ws
@@ -43,10 +45,12 @@ abbrev pub words_left : Bool → List ℕ → List (List ℕ)
 words_left true text = words_of text
 words_left false text = []
 
+-- the next word, and the words behind it
 abbrev pub next : List (List ℕ) → Option (List ℕ × List (List ℕ))
 next [] = None
 next (w ∷ ws) = Some (w, ws)
 
+-- a word behind which none stands
 abbrev pub alone : List ℕ → Option (List ℕ × List (List ℕ)) → Option (List ℕ)
 alone w None = Some w
 alone w (Some x) = None
@@ -57,6 +61,7 @@ last ws = next ws >>= λ x. alone x.0 (next x.1)
 
 -- ---- numbers
 
+-- a decimal digit
 abbrev pub is_digit : ℕ → Bool
 is_digit c = nat_le 48 c && nat_le c 57
 
@@ -64,6 +69,7 @@ is_digit c = nat_le 48 c && nat_le c 57
 abbrev pub with_digit : ℕ → ℕ → Option ℕ
 with_digit n c = if is_digit c && nat_lt (n * 10 + (c - 48)) (2 ^ 64) then Some (n * 10 + (c - 48)) else None
 
+-- a number of 64 bits whose digits go on with these
 unfoldable pub digits_on : ℕ → List ℕ → Option ℕ
 digits_on n [] = Some n
 digits_on n (c ∷ cs) = with_digit n c >>= λ m. digits_on m cs
@@ -88,9 +94,11 @@ option_in pages w = if bytes_eq w (codes "-") then Some None else page_in pages 
 
 -- ---- bytes and commands
 
+-- a hexadecimal digit in lower case
 abbrev pub is_lower_digit : ℕ → Bool
 is_lower_digit c = is_digit c || (nat_le 97 c && nat_le c 102)
 
+-- so are all of these
 unfoldable pub are_lower_digits : List ℕ → Bool
 are_lower_digits [] = true
 are_lower_digits (c ∷ cs) = is_lower_digit c && are_lower_digits cs
@@ -103,6 +111,7 @@ is_hex low high w = length w % 2 == 0 && nat_le low (length w / 2) && nat_le (le
 abbrev pub digit_in : ℕ → Option ℕ
 digit_in c = if is_digit c then Some (c - 48) else if nat_le 97 c && nat_le c 102 then Some (c - 87) else None
 
+-- a byte by its two digits
 abbrev pub byte_in : ℕ → ℕ → Option ℕ
 byte_in high low = do
   h ← digit_in high
@@ -122,6 +131,7 @@ pairs_in (high ∷ low ∷ rest) = do
 abbrev pub bytes_in : ℕ → List ℕ → Option (List ℕ)
 bytes_in n w = if length w == 2 * n then pairs_in w else None
 
+-- a command by its word
 abbrev pub op_in : List ℕ → Option Op
 op_in w =
     if bytes_eq w (codes "flush") then Some Flush
@@ -134,6 +144,7 @@ op_in w =
 
 -- ---- forms
 
+-- decimal digits
 unfoldable pub are_digits : List ℕ → Bool
 are_digits [] = true
 are_digits (c ∷ cs) = is_digit c && are_digits cs
@@ -144,6 +155,7 @@ is_numeral [] = false
 is_numeral (c ∷ []) = are_digits (c ∷ [])
 is_numeral (c ∷ d ∷ cs) = if c == 48 then false else are_digits (c ∷ d ∷ cs)
 
+-- a word has this form
 abbrev pub has_form : Piece → List ℕ → Bool
 has_form Numeral w = is_numeral w
 has_form Page w = bytes_eq w (codes "-") || is_numeral w
@@ -151,6 +163,7 @@ has_form Command w = is_some (op_in w)
 has_form (Hex low high) w = is_hex low high w
 has_form Maybe w = is_numeral w
 
+-- a word of this form may be missing
 abbrev pub may_miss : Piece → Bool
 may_miss Numeral = false
 may_miss Page = false

@@ -15,9 +15,11 @@ use Rattle.nvm_model.specs.World.{acts_of}
 -- What a script asks for, and the Identify data that its guest sees, as text: the sizes of controller, namespace and
 -- shelves, a line for each lane, and two digests.
 
+-- the controller's two lines
 abbrev pub controller_text : List ℕ
 controller_text = codes "controller nvmigrate virtual controller\n" ++ codes "mdts 3\n"
 
+-- the namespace's line
 abbrev pub namespace_line : ℕ → List ℕ
 namespace_line blocks = codes "namespace 1 blocks " ++ field blocks ++ codes "bytes 512\n"
 
@@ -25,6 +27,7 @@ namespace_line blocks = codes "namespace 1 blocks " ++ field blocks ++ codes "by
 abbrev pub shelves_line : Head → List ℕ
 shelves_line h = codes "shelves " ++ field (h.blocks / h.shelf) ++ codes "of " ++ last_field h.shelf
 
+-- the lines of the namespace and of its shelves
 abbrev pub namespace_text : Head → List ℕ
 namespace_text h = namespace_line h.blocks ++ shelves_line h
 
@@ -51,5 +54,6 @@ digest_line name bytes = codes "identify " ++ name ++ codes " " ++ encode_lower 
 abbrev pub digests_text : ℕ → List ℕ
 digests_text blocks = digest_line (codes "controller") (controller_bytes own) ++ digest_line (codes "namespace") (namespace_bytes (own_of blocks))
 
+-- all of it, in its order
 abbrev pub show_text : Script → List ℕ
 show_text s = controller_text ++ namespace_text s.head ++ lane_lines s.acts 1 (take s.head.lanes s.head.sets) ++ digests_text s.head.blocks
