@@ -1,4 +1,4 @@
-use Rattle.std.proofs.Common.{◌≡◌, ◌⊎◌, inl, inr, ⊎_elim, ℕ, zero, suc, ◌+◌, ◌-◌, ◌<◌, ◌≤◌, slice_index_or, map, Bool, true, false, Option, Some, None, Result, Ok, Err, List, [], ◌∷◌, length, refl, sym, ap, subst, ◌∙◌, arith}
+use Rattle.std.proofs.Common.{◌≡◌, ◌⊎◌, inl, inr, ⊎_elim, ℕ, zero, suc, ◌+◌, ◌-◌, ◌<◌, ◌≤◌, slice_index_or, map, Bool, true, false, Option, Some, None, Result, Ok, Err, List, [], ◌∷◌, length, refl, sym, ap, subst, ◌∙◌, arith, ◌↔◌}
 use Rattle.std.specs.Prelude.{IfOk, IsTrue, is_err}
 use Rattle.std.proofs.Math.ListN.{get_or-map}
 use Rattle.std.proofs.lemmas.List.{length-map}
@@ -26,7 +26,7 @@ use Rattle.nvm_model.specs.declared.run.Side.{Side}
 use Rattle.nvm_model.specs.declared.run.Side.TheVariants.{Source, Destination}
 use Rattle.nvm_model.specs.Run.{AreComplete, CopiesAll, CopiesUpTo, Copy, Here, IsDue, IsTurn, SinkState, Snapshot, Task, all_blocks, among, here, left_calls, lines_of, memory_of, opposite, taken_calls, turn_lines}
 use Rattle.nvm_model.specs.Run.Stage.{Title, Turn, Begin, Resume, GiveUp, End}
-use Rattle.turns.proofs.RunLaws.{went_more, went_none, went_sent}
+use Rattle.turns.proofs.RunLaws.{went_more, went_none, went_sent, sent_from}
 use Rattle.session.specs.declared.ending.Ending.TheVariants.{Done, GaveUp}
 use Rattle.session.specs.declared.lane_run.LaneRun.{LaneRun}
 use Rattle.session.specs.declared.order.Order.{Order}
@@ -39,6 +39,9 @@ use Rattle.session.specs.Sides.{Goes, IsAhead, IsDueAfter, IsEnding, IsMoveDue, 
 use Rattle.session.proofs.MemoryLemmas.{whole_memory}
 use Rattle.session.proofs.ShelvesLemmas.{same_namespace}
 use Rattle.session.proofs.RestLemmas.{complete_is, done_is}
+use Rattle.turns.proofs.CopyLaws.{calls_along}
+use Rattle.manager.proofs.StateLemmas.{rings_at}
+use Rattle.controller.specs.declared.controller.Phase.TheVariants.{Running as Started}
 
 -- What code did as stages of a run, whatever run it stood for.
 
@@ -59,10 +62,6 @@ onward_more a b = record {
   manager = b.manager ∙ a.manager;
   running = b.running;
 }
-
--- a text went out from where the run stood
-sent_from : {T E : Type 0} {text : List ℕ} {at out sent : SinkState} {result : Result T E} → at ≡ out → Writes text out.taken sent.taken out.faults sent.faults result → Writes text at.taken sent.taken at.faults sent.faults result
-sent_from {text = text} {sent = sent} {result = result} is w = subst (λ (o : SinkState). Writes text o.taken sent.taken o.faults sent.faults result) (sym is) w
 
 -- When a migration is due.
 
@@ -175,10 +174,6 @@ goes_turn {M} {I} {T} {E} {state} {moves} {s} {at} {new_at} {other} {out} {sent}
 
 -- The move.
 
--- calls of a move between media that are the same
-calls_along : {M : Type 0} {s : Script} {k : Task} {a b : List M} (R : List M → At → List M → Type 0) (x : List M) (calls : Script → List Copy → List At) (copies : List Copy) → k ≡ serial s → b ≡ a → Chain R a (calls s copies) x → Chain R b (calls k.script copies) x
-calls_along {M} {s} {k} {a} {b} R x calls copies task media c = subst (λ (j : Task). Chain R b (calls j.script copies) x) (sym task) (subst (λ (m : List M). Chain R m (calls s copies) x) (sym media) c)
-
 -- two controllers have the same rings, and no command under way
 record HaveSameRings (s : Script) (old new : ControllerState) : Type 0 where
   sq : (k : ℕ) → 1 ≤ k → k ≤ s.head.lanes → (pair_of new k).sq ≡ (pair_of old k).sq
@@ -201,14 +196,6 @@ stands_with {s} {runs} same stands = record {
         running = was.running ∙ ap (λ (cs : List Command). worked s.head.shelf cs (outcomes_of (slice_index_or runs (k - 1) d).results.items)) (sym (same.commands k low high));
       };
 }
-
--- a pair that took an image
-rings_at : (images : List PairImage) (pairs : List PairState) (i : ℕ) (e : PairImage) (d : PairState) → i < length images → i < length pairs →
-    slice_index_or (with_images images pairs) i d ≡ with_rings (slice_index_or images i e) (slice_index_or pairs i d)
-rings_at [] pairs i e d there here = absurd (omega (arith, there))
-rings_at (image ∷ images) [] i e d there here = absurd (omega (arith, here))
-rings_at (image ∷ images) (pair ∷ pairs) zero e d there here = refl
-rings_at (image ∷ images) (pair ∷ pairs) (suc i) e d there here = rings_at images pairs i e d (omega (arith, there)) (omega (arith, here))
 
 module _ {M : Type 0} (s : SessionState) (new : ControllerState) {at to : PlaceState M} (ready : IsReady s.script (machine_of s at)) (waits : IsWaiting s.script to)
     (is : new ≡ record (gone_on_with (map image_of at.controller.pairs) to.controller) { fed = new.fed }) where
@@ -237,23 +224,27 @@ module _ {M I : Type 0} {state : M → MediumState I} {moves : I → Step → Bo
   lanes_there : IsWaiting s.script to → (m : Moves state moves s.script (both at to) (both new_at new_to)) → (lanes : List Lane) → StandsFor s.script s.runs at.controller at.windows lanes → StandsFor s.script s.runs new_to.controller new_to.windows lanes
   lanes_there waits m lanes stands = subst (λ (ws : List WindowState). StandsFor s.script s.runs new_to.controller ws lanes) (sym m.to_memory) (stands_with (rings_there s new_to.controller ready waits m.controllers.1) stands)
 
-  -- a machine is ready there
-  pub ready_there : IsWaiting s.script to → Moves state moves s.script (both at to) (both new_at new_to) → IsReady s.script (machine_of s new_to)
-  ready_there waits m = record {
+  -- a machine is ready where its guests stand on that place
+  ready_at : {new : PlaceState M} → IsPlaceOf s.script new → new.controller.phase ≡ Started → ((k : ℕ) → 1 ≤ k → k ≤ s.script.head.lanes → (pair_of new.controller k).commands ≡ []) → StandsFor s.script s.runs new.controller new.windows ready.stood.lanes →
+      IsReady s.script (machine_of s new)
+  ready_at {new} place running quiet lanes = record {
     script = ready.script;
     runs = ready.runs;
-    place = record {
-      namespace = same_namespace waits.at.namespace m.crosses.to_shelves;
-      windows = subst (HaveWindows s.script) (sym m.to_memory) ready.place.windows;
-      pairs = pairs_there s new_to.controller ready waits m.controllers.1;
-      burst = ap (λ (c : ControllerState). c.burst) m.controllers.1 ∙ waits.at.burst;
-    };
-    running = ap (λ (c : ControllerState). c.phase) m.controllers.1;
+    place = place;
+    running = running;
     mix = ready.mix;
-    quiet = record { commands = quiet_there s new_to.controller ready waits m.controllers.1; results = ready.quiet.results };
-    stood = record ready.stood { media = media_of new_to.namespace };
-    stands = record { lanes = lanes_there waits m ready.stood.lanes ready.stands.lanes; media = refl; words = ready.stands.words };
+    quiet = record { commands = quiet; results = ready.quiet.results };
+    stood = record ready.stood { media = media_of new.namespace };
+    stands = record { lanes = lanes; media = refl; words = ready.stands.words };
   }
+
+  pub ready_there : IsWaiting s.script to → Moves state moves s.script (both at to) (both new_at new_to) → IsReady s.script (machine_of s new_to)
+  ready_there waits m = ready_at (record {
+    namespace = same_namespace waits.at.namespace m.crosses.to_shelves;
+    windows = subst (HaveWindows s.script) (sym m.to_memory) ready.place.windows;
+    pairs = pairs_there s new_to.controller ready waits m.controllers.1;
+    burst = ap (λ (c : ControllerState). c.burst) m.controllers.1 ∙ waits.at.burst;
+  }) (ap (λ (c : ControllerState). c.phase) m.controllers.1) (quiet_there s new_to.controller ready waits m.controllers.1) (lanes_there waits m ready.stood.lanes ready.stands.lanes)
 
   -- or here, where the guests stayed
   lanes_here : Stays state moves s.script (both at to) (both new_at new_to) → (lanes : List Lane) → StandsFor s.script s.runs at.controller at.windows lanes → StandsFor s.script s.runs new_at.controller new_at.windows lanes
@@ -264,21 +255,13 @@ module _ {M I : Type 0} {state : M → MediumState I} {moves : I → Step → Bo
   pub ready_here : Stays state moves s.script (both at to) (both new_at new_to) → IsReady s.script (machine_of s new_at)
   ready_here m =
       let pairs : new_at.controller.pairs ≡ at.controller.pairs = ap (λ (c : ControllerState). c.pairs) m.controllers.0 in
-      record {
-        script = ready.script;
-        runs = ready.runs;
-        place = record {
-          namespace = same_namespace ready.place.namespace m.crosses.from_shelves;
-          windows = subst (HaveWindows s.script) (sym m.crosses.from_memory) ready.place.windows;
-          pairs = ap length pairs ∙ ready.place.pairs;
-          burst = ap (λ (c : ControllerState). c.burst) m.controllers.0 ∙ ready.place.burst;
-        };
-        running = ap (λ (c : ControllerState). c.phase) m.controllers.0;
-        mix = ready.mix;
-        quiet = record { commands = λ k low high. ap (λ (ps : List PairState). (slice_index_or ps (k - 1) no_pair).commands) pairs ∙ ready.quiet.commands k low high; results = ready.quiet.results };
-        stood = record ready.stood { media = media_of new_at.namespace };
-        stands = record { lanes = lanes_here m ready.stood.lanes ready.stands.lanes; media = refl; words = ready.stands.words };
-      }
+      ready_at (record {
+        namespace = same_namespace ready.place.namespace m.crosses.from_shelves;
+        windows = subst (HaveWindows s.script) (sym m.crosses.from_memory) ready.place.windows;
+        pairs = ap length pairs ∙ ready.place.pairs;
+        burst = ap (λ (c : ControllerState). c.burst) m.controllers.0 ∙ ready.place.burst;
+      }) (ap (λ (c : ControllerState). c.phase) m.controllers.0) (λ k low high. ap (λ (ps : List PairState). (slice_index_or ps (k - 1) no_pair).commands) pairs ∙ ready.quiet.commands k low high)
+      (lanes_here m ready.stood.lanes ready.stands.lanes)
 
   -- the run goes on at the other side
   goes_resume : {T E : Type 0} {out sent : SinkState} {result : Result T E} (manager : ManagerState) → s.phase ≡ Suspended → IsWaiting s.script to → Moves state moves s.script (both at to) (both new_at new_to) →
@@ -360,25 +343,16 @@ module _ {M I : Type 0} {state : M → MediumState I} {moves : I → Step → Bo
 -- What was said of a session and two places, said of the source and the destination.
 
 pub on_source : {M I : Type 0} {state : M → MediumState I} {moves : I → Step → Bool → I → Type 0} {old new : SessionState} {from to new_from new_to : PlaceState M} {out sent : SinkState} {failed : Bool} → new.side ≡ Source →
-    Goes state moves (sides old from to out) failed (sides new new_from new_to sent) → Goes state moves (sides old from to out) failed (by_side new new_from new_to sent)
-on_source {M} {state = state} {moves} {old} {new} {from} {to} {new_from} {new_to} {out} {sent} {failed} is goes =
-    subst (λ (side : Side). Goes state moves (sides old from to out) failed (at_side side (sides new new_from new_to sent) (sides new new_to new_from sent))) (sym is) goes
+    Goes state moves (sides old from to out) failed (sides new new_from new_to sent) ↔ Goes state moves (sides old from to out) failed (by_side new new_from new_to sent)
+on_source {M} {state = state} {moves} {old} {new} {from} {to} {new_from} {new_to} {out} {sent} {failed} is =
+    let same = ap (λ (side : Side). Goes state moves (sides old from to out) failed (at_side side (sides new new_from new_to sent) (sides new new_to new_from sent))) is in
+    (subst (λ (X : Type 0). X) (sym same), subst (λ (X : Type 0). X) same)
 
 pub on_destination : {M I : Type 0} {state : M → MediumState I} {moves : I → Step → Bool → I → Type 0} {old new : SessionState} {from to new_from new_to : PlaceState M} {out sent : SinkState} {failed : Bool} → new.side ≡ Destination →
-    Goes state moves (sides old from to out) failed (sides new new_to new_from sent) → Goes state moves (sides old from to out) failed (by_side new new_from new_to sent)
-on_destination {M} {state = state} {moves} {old} {new} {from} {to} {new_from} {new_to} {out} {sent} {failed} is goes =
-    subst (λ (side : Side). Goes state moves (sides old from to out) failed (at_side side (sides new new_from new_to sent) (sides new new_to new_from sent))) (sym is) goes
-
--- and back
-pub as_source : {M I : Type 0} {state : M → MediumState I} {moves : I → Step → Bool → I → Type 0} {old new : SessionState} {from to new_from new_to : PlaceState M} {out sent : SinkState} {failed : Bool} → new.side ≡ Source →
-    Goes state moves (sides old from to out) failed (by_side new new_from new_to sent) → Goes state moves (sides old from to out) failed (sides new new_from new_to sent)
-as_source {M} {state = state} {moves} {old} {new} {from} {to} {new_from} {new_to} {out} {sent} {failed} is goes =
-    subst (λ (side : Side). Goes state moves (sides old from to out) failed (at_side side (sides new new_from new_to sent) (sides new new_to new_from sent))) is goes
-
-pub as_destination : {M I : Type 0} {state : M → MediumState I} {moves : I → Step → Bool → I → Type 0} {old new : SessionState} {from to new_from new_to : PlaceState M} {out sent : SinkState} {failed : Bool} → new.side ≡ Destination →
-    Goes state moves (sides old from to out) failed (by_side new new_from new_to sent) → Goes state moves (sides old from to out) failed (sides new new_to new_from sent)
-as_destination {M} {state = state} {moves} {old} {new} {from} {to} {new_from} {new_to} {out} {sent} {failed} is goes =
-    subst (λ (side : Side). Goes state moves (sides old from to out) failed (at_side side (sides new new_from new_to sent) (sides new new_to new_from sent))) is goes
+    Goes state moves (sides old from to out) failed (sides new new_to new_from sent) ↔ Goes state moves (sides old from to out) failed (by_side new new_from new_to sent)
+on_destination {M} {state = state} {moves} {old} {new} {from} {to} {new_from} {new_to} {out} {sent} {failed} is =
+    let same = ap (λ (side : Side). Goes state moves (sides old from to out) failed (at_side side (sides new new_from new_to sent) (sides new new_to new_from sent))) is in
+    (subst (λ (X : Type 0). X) (sym same), subst (λ (X : Type 0). X) same)
 
 pub if_ok : {T E : Type 0} {P Q : T → Type 0} (result : Result T E) → ((x : T) → P x → Q x) → IfOk result P → IfOk result Q
 if_ok (Ok x) f p = f x p
