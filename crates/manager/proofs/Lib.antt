@@ -3,4 +3,5 @@ pub mod CommandLemmas
 pub mod CopyLemmas
 pub mod StateLemmas
 pub mod StepLemmas
+pub mod MediaLemmas
 pub mod MoveLemmas

@@ -45,7 +45,8 @@ use Rattle.session.specs.Sides.{move_set}
 use Rattle.session.proofs.MemoryLemmas.{have_pages, one_shape, same_memory}
 use Rattle.session.proofs.RestLemmas.{all_quiet, some_run}
 use Rattle.session.proofs.PortLemmas.{names_kept}
-use Rattle.session.proofs.MoveCallLemmas.{AreMoveCalls, IsShelved, PlaceGoes, cut_calls, from_all, stopped_calls, to_all}
+use Rattle.manager.proofs.MediaLemmas.{AreMoveCalls, cut_calls, stopped_calls}
+use Rattle.session.proofs.MoveCallLemmas.{IsShelved, PlaceGoes, from_all, to_all}
 
 -- What a manager says of its port, of both places.
 
