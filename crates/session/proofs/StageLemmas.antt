@@ -34,7 +34,7 @@ use Rattle.manager.specs.declared.manager.Pause.{Pause}
 use Rattle.session.specs.Moves.{Moves, Stays, Tries, both}
 use Rattle.session.specs.Lanes.{HaveWindows}
 use Rattle.nvm_model.specs.Told.{serial}
-use Rattle.session.specs.Place.{AreAllDone, DoesTurn, IsReady, IsWaiting, PlaceState, StandsFor, StandsOn, machine, pages_of}
+use Rattle.session.specs.Place.{IsPlaceOf, AreAllDone, DoesTurn, IsReady, IsWaiting, PlaceState, StandsFor, StandsOn, machine, pages_of}
 use Rattle.session.specs.Sides.{Goes, IsAhead, IsDueAfter, IsEnding, IsMoveDue, IsOnward, IsRunning, SessionState, Sides, at_side, by_side, less_one, machine_of, sides, turns_ahead}
 use Rattle.session.proofs.MemoryLemmas.{whole_memory}
 use Rattle.session.proofs.ShelvesLemmas.{same_namespace}
