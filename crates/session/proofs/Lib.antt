@@ -4,11 +4,9 @@ pub mod EntryLemmas
 pub mod LanePartLemmas
 pub mod MemoryLemmas
 pub mod OpenLemmas
-pub mod OrderLemmas
 pub mod RestLemmas
 pub mod SeatLemmas
 pub mod ShelvesLemmas
 pub mod StageLemmas
-pub mod StartLemmas
 pub mod TurnLemmas
 pub mod WorkLemmas
