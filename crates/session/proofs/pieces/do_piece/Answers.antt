@@ -1,13 +1,14 @@
 use Rattle.std.proofs.Common.{List, ◌+◌, ◌++◌, [], ◌∷◌, get_or, subst, sym, ap, ◌∙◌, arith, ◌/◌, ℕ}
 use Rattle.nvm_model.specs.declared.line.Line.{Line}
 use Rattle.session.specs.Phases.{DoesPieces, StandsNext}
-use Rattle.session.proofs.WorkLemmas.{piece_fits, piece_leads, pieces_fit, plan_after, result_fits}
+use Rattle.session.proofs.WorkLemmas.{piece_fits, piece_leads, plan_after, result_fits}
 use Rattle.session.proofs.pieces.do_piece.Goals as goal
 use Rattle.nvm_model.specs.declared.piece.Piece.{Piece}
 use Rattle.nvm_blocks.specs.Namespace.{Enters, HasRoom}
 use Rattle.mig_base.proofs.ListLemmas.{element_at}
 use Rattle.session.specs.Work.{due_piece}
 use Rattle.turns.specs.Parts.{Leads}
+use Rattle.controller.proofs.PlannedLemmas.{pieces_fit}
 
 pub next_piece-piece-requires-clause-few : goal.next_piece-piece-requires-clause-few
 next_piece-piece-requires-clause-few g c =
