@@ -20,7 +20,8 @@ use Rattle.session.specs.declared.lane_run.LaneRun.{LaneRun}
 use Rattle.session.specs.Lanes.{HaveWindows, IsNewRun, Stands, window_of}
 use Rattle.turns.proofs.ScriptLaws.{set_fits, count_sets, set_at, start_at, start_count}
 use Rattle.guest_ram.proofs.Made.{made_at, made_count}
-use Rattle.session.specs.Sides.{IsAhead, IsNewSession, SessionState, machine_of, turns_ahead}
+use Rattle.turns.specs.Ahead.{IsAhead, turns_ahead}
+use Rattle.session.specs.Sides.{IsNewSession, SessionState, machine_of}
 use Rattle.ctl_state.specs.Parts.{PartsState}
 use Rattle.session.proofs.MemoryLemmas.{whole_memory}
 use Rattle.session.proofs.RestLemmas.{all_quiet}
