@@ -187,27 +187,27 @@ module _ {M : Type 0} (s : SessionState) (new : ControllerState) {at to : PlaceS
   pairs_there : length new.pairs ≡ s.script.head.lanes
   pairs_there = ap (λ (c : ControllerState). length c.pairs) is ∙ length-with_images (map image_of at.controller.pairs) to.controller.pairs ∙ waits.at.pairs
 
+-- a machine is ready where its guests stand on that place
+ready_at : {M : Type 0} (s : SessionState) {at new : PlaceState M} (ready : IsReady s.script (machine_of s at)) → IsPlaceOf s.script new → new.controller.phase ≡ Started →
+    ((k : ℕ) → 1 ≤ k → k ≤ s.script.head.lanes → (pair_of new.controller k).commands ≡ []) → StandsFor s.script s.runs new.controller new.windows ready.stood.lanes → IsReady s.script (machine_of s new)
+ready_at s {at} {new} ready place running quiet lanes = record {
+  script = ready.script;
+  runs = ready.runs;
+  place = place;
+  running = running;
+  mix = ready.mix;
+  quiet = record { commands = quiet; results = ready.quiet.results };
+  stood = record ready.stood { media = media_of new.namespace };
+  stands = record { lanes = lanes; media = refl; words = ready.stands.words };
+}
+
 module _ {M I : Type 0} {state : M → MediumState I} {moves : I → Step → Bool → I → Type 0} (s : SessionState) {at to new_at new_to : PlaceState M} (ready : IsReady s.script (machine_of s at)) where
   -- what stood for lanes here stands for them there
   lanes_there : IsWaiting s.script to → (m : Moves state moves s.script (both at to) (both new_at new_to)) → (lanes : List Lane) → StandsFor s.script s.runs at.controller at.windows lanes → StandsFor s.script s.runs new_to.controller new_to.windows lanes
   lanes_there waits m lanes stands = subst (λ (ws : List WindowState). StandsFor s.script s.runs new_to.controller ws lanes) (sym m.to_memory) (stands_with (rings_there s new_to.controller ready waits m.controllers.1) stands)
 
-  -- a machine is ready where its guests stand on that place
-  ready_at : {new : PlaceState M} → IsPlaceOf s.script new → new.controller.phase ≡ Started → ((k : ℕ) → 1 ≤ k → k ≤ s.script.head.lanes → (pair_of new.controller k).commands ≡ []) → StandsFor s.script s.runs new.controller new.windows ready.stood.lanes →
-      IsReady s.script (machine_of s new)
-  ready_at {new} place running quiet lanes = record {
-    script = ready.script;
-    runs = ready.runs;
-    place = place;
-    running = running;
-    mix = ready.mix;
-    quiet = record { commands = quiet; results = ready.quiet.results };
-    stood = record ready.stood { media = media_of new.namespace };
-    stands = record { lanes = lanes; media = refl; words = ready.stands.words };
-  }
-
   pub ready_there : IsWaiting s.script to → Moves state moves s.script (both at to) (both new_at new_to) → IsReady s.script (machine_of s new_to)
-  ready_there waits m = ready_at (record {
+  ready_there waits m = ready_at s ready (record {
     namespace = same_namespace waits.at.namespace m.crosses.to_shelves;
     windows = subst (HaveWindows s.script) (sym m.to_memory) ready.place.windows;
     pairs = pairs_there s new_to.controller ready waits m.controllers.1;
@@ -223,7 +223,7 @@ module _ {M I : Type 0} {state : M → MediumState I} {moves : I → Step → Bo
   pub ready_here : Stays state moves s.script (both at to) (both new_at new_to) → IsReady s.script (machine_of s new_at)
   ready_here m =
       let pairs : new_at.controller.pairs ≡ at.controller.pairs = ap (λ (c : ControllerState). c.pairs) m.controllers.0 in
-      ready_at (record {
+      ready_at s ready (record {
         namespace = same_namespace ready.place.namespace m.crosses.from_shelves;
         windows = subst (HaveWindows s.script) (sym m.crosses.from_memory) ready.place.windows;
         pairs = ap length pairs ∙ ready.place.pairs;
@@ -325,19 +325,3 @@ on_destination {M} {state = state} {moves} {old} {new} {from} {to} {new_from} {n
 pub if_ok : {T E : Type 0} {P Q : T → Type 0} (result : Result T E) → ((x : T) → P x → Q x) → IfOk result P → IfOk result Q
 if_ok (Ok x) f p = f x p
 if_ok (Err e) f p = tt
-
--- How a run ends.
-
--- a script that asks for no migration
-pub none_asked : (asked : Option ℕ) (side : Side) → turns_ahead asked ≡ None → IsEnding asked side Done
-none_asked None side is = tt
-none_asked (Some turn) side is = absurd cc
-
--- one that asks for one, after which the guests are there, or here
-pub asked_there : (asked : Option ℕ) → (turns_ahead asked ≡ None → ⊥) → IsEnding asked Destination Done
-asked_there None some = absurd (some refl)
-asked_there (Some turn) some = tt
-
-pub asked_here : (asked : Option ℕ) → (turns_ahead asked ≡ None → ⊥) → IsEnding asked Source GaveUp
-asked_here None some = absurd (some refl)
-asked_here (Some turn) some = tt

@@ -35,12 +35,3 @@ ahead_less tried migrate turns (Some n) done is none =
     zero_or : (n : ℕ) → (n ≡ 0) ⊎ (1 ≤ n)
     zero_or zero = inl refl
     zero_or (suc n) = inr (omega arith)
-
--- where all is done and no migration is due, none is asked for any more
-pub none_ahead : (ahead : Option ℕ) {P : Type 0} → P → (IsDueAfter ahead P → ⊥) → ahead ≡ None
-none_ahead None done not = refl
-none_ahead (Some n) done not = absurd (not (inr done))
-
-pub some_ahead : (ahead : Option ℕ) (P : Type 0) → IsDueAfter ahead P → ahead ≡ None → ⊥
-some_ahead None P due is = due
-some_ahead (Some n) P due is = absurd cc
