@@ -1,4 +1,4 @@
-use Rattle.std.proofs.Common.{◌≡◌, ◌⊎◌, inl, inr, ⊎_elim, ℕ, zero, suc, ◌+◌, ◌-◌, ◌<◌, ◌≤◌, slice_index_or, map, Bool, true, false, Option, Some, None, Result, Ok, Err, List, [], ◌∷◌, length, refl, sym, ap, subst, ◌∙◌, arith, ◌↔◌}
+use Rattle.std.proofs.Common.{◌≡◌, ℕ, ◌+◌, ◌-◌, ◌≤◌, slice_index_or, map, Bool, true, false, None, Result, Ok, Err, List, [], ◌∷◌, length, refl, sym, ap, subst, ◌∙◌, arith, ◌↔◌}
 use Rattle.std.specs.Prelude.{IfOk, IsTrue, is_err}
 use Rattle.std.proofs.Math.ListN.{get_or-map}
 use Rattle.std.proofs.lemmas.List.{length-map}
@@ -6,13 +6,12 @@ use Rattle.mig_base.specs.Stream.{Writes}
 use Rattle.nvm_model.specs.declared.line.Line.{Line}
 use Rattle.nvm_model.specs.declared.line.Line.TheVariants as line
 use Rattle.nvm_model.specs.declared.trace.Step.{Step}
-use Rattle.nvm_model.specs.Chain.{Chain}
 use Rattle.nvm_model.specs.History.{Complete}
-use Rattle.nvm_model.specs.Medium.{At, IsAt, MediumState}
+use Rattle.nvm_model.specs.Medium.{IsAt, MediumState}
 use Rattle.nvm_model.specs.Text.{text_of}
 use Rattle.nvm_model.specs.World.{Lane}
 use Rattle.controller.specs.Pair.{ControllerState, PairState, no_pair, outcomes_of, pair_of, worked}
-use Rattle.controller.specs.Admin.{image_of, with_images, with_rings}
+use Rattle.controller.specs.Admin.{image_of, with_rings}
 use Rattle.controller.proofs.AdminLemmas.{length-with_images}
 use Rattle.ctl_state.specs.declared.image.PairState.{PairState as PairImage}
 use Rattle.manager.specs.Move.{ManagerState, gone_on_with}
@@ -24,12 +23,11 @@ use Rattle.nvm_blocks.specs.Namespace.{media_of}
 use Rattle.nvm_model.specs.declared.run.RunPhase.TheVariants.{New, Running, Suspended, Over}
 use Rattle.nvm_model.specs.declared.run.Side.{Side}
 use Rattle.nvm_model.specs.declared.run.Side.TheVariants.{Source, Destination}
-use Rattle.nvm_model.specs.Run.{AreComplete, CopiesAll, CopiesUpTo, Copy, Here, IsDue, IsTurn, SinkState, Snapshot, Task, all_blocks, among, here, left_calls, lines_of, memory_of, opposite, taken_calls, turn_lines}
+use Rattle.nvm_model.specs.Run.{AreComplete, CopiesAll, CopiesUpTo, Here, IsTurn, SinkState, Snapshot, Task, all_blocks, among, here, left_calls, lines_of, memory_of, opposite, taken_calls, turn_lines}
 use Rattle.nvm_model.specs.Run.Stage.{Title, Turn, Begin, Resume, GiveUp, End}
 use Rattle.turns.proofs.RunLaws.{went_more, went_none, went_sent, sent_from}
-use Rattle.turns.specs.Ahead.{IsAhead, less_one, turns_ahead}
+use Rattle.turns.specs.Ahead.{less_one}
 use Rattle.turns.proofs.AheadLaws.{ahead_less, due_is, not_due}
-use Rattle.session.specs.declared.ending.Ending.TheVariants.{Done, GaveUp}
 use Rattle.session.specs.declared.lane_run.LaneRun.{LaneRun}
 use Rattle.session.specs.declared.order.Order.{Order}
 use Rattle.manager.specs.declared.manager.Pause.{Pause}
@@ -37,7 +35,7 @@ use Rattle.session.specs.Moves.{Moves, Stays, Tries, both}
 use Rattle.session.specs.Lanes.{HaveWindows}
 use Rattle.nvm_model.specs.Told.{serial}
 use Rattle.session.specs.Place.{IsPlaceOf, AreAllDone, DoesTurn, IsReady, IsWaiting, PlaceState, StandsFor, StandsOn, machine, pages_of}
-use Rattle.session.specs.Sides.{Goes, IsEnding, IsMoveDue, IsOnward, IsRunning, SessionState, Sides, at_side, by_side, machine_of, sides}
+use Rattle.session.specs.Sides.{Goes, IsMoveDue, IsOnward, IsRunning, SessionState, Sides, at_side, by_side, machine_of, sides}
 use Rattle.session.proofs.MemoryLemmas.{whole_memory}
 use Rattle.session.proofs.ShelvesLemmas.{same_namespace}
 use Rattle.session.proofs.RestLemmas.{complete_is, done_is}
