@@ -4,6 +4,7 @@ pub mod LaneLemmas
 pub mod NextLemmas
 pub mod PairLemmas
 pub mod PlanLemmas
+pub mod PlannedLemmas
 pub mod ShelfLemmas
 pub mod StepLemmas
 pub mod WorkLemmas

@@ -232,6 +232,18 @@ pub record FetchesTurn (k blocks shelf burst : ℕ) (window : WindowState) (plan
   pub few : length new.commands ≤ burst
   pub told : old.commands ≡ [] → new.fetched ≡ map (told_fetch shelf) new.commands
 
+-- the commands of lane k and their pieces stand in the plan
+pub record IsPlanned (s : Script) (k : ℕ) (plan : PlanState) (pair : PairState) : Type 0 where
+  pub pieces : pieces_of plan k ≡ lane_pieces k s.head.shelf pair.commands
+  pub told : pair.fetched ≡ map (told_fetch s.head.shelf) pair.commands
+  pub checked : All (IsFetched s.head.blocks (set_of s.head k).pages) pair.commands
+  pub few : length pair.commands ≤ s.head.burst
+
+-- the pieces of lane k's fetched commands were put into a plan where it had none
+pub record PlansLane (s : Script) (k : ℕ) (old new : PlanState) (pair : PairState) : Type 0 where
+  pub planned : IsPlanned s k new pair
+  pub same : IsSameButPieces k old new
+
 -- the commands after their pieces ended so, of which that many were told of each
 abbrev pub ended : List Command → List (ℕ × StatusPair × ℕ) → List Outcome → List Command
 ended [] told outcomes = []

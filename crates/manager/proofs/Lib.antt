@@ -5,3 +5,4 @@ pub mod CopyLemmas
 pub mod StateLemmas
 pub mod StepLemmas
 pub mod MoveLemmas
+pub mod PortLaws

@@ -10,10 +10,11 @@ use Rattle.ctl_state.specs.Parts.{Begins, Feeds, IsWhole, PartsState, image_size
 use Rattle.ctl_state.proofs.ImageLemmas.{whole_same, whole_size}
 use Rattle.controller.specs.declared.controller.Phase.{Phase}
 use Rattle.controller.specs.declared.controller.Phase.TheVariants.{Running, Suspended, Loading}
-use Rattle.controller.specs.Admin.{AdminResult, GoesOnWith, Resumes, Sets, TakesPart, image_of, state_bytes, with_images}
+use Rattle.controller.specs.Admin.{AdminResult, GoesOnWith, Resumes, Sets, TakesPart, image_of, state_bytes, with_images, with_rings}
 use Rattle.controller.specs.Pair.{ControllerState, PairState}
 use Rattle.manager.specs.Move.{HasImage, gone_on_with}
 use Rattle.manager.specs.Parts.{size_of}
+use Rattle.std.specs.Prelude.{slice_index_or}
 
 -- A controller's state as the parts of an image.
 
@@ -121,3 +122,11 @@ pub resumed : (phase : Phase) (source old new : ControllerState) (i : HasImage s
 resumed Loading source old new i result is lanes bytes count resumes = gone_on source old new i result resumes.0 lanes bytes count resumes.1
 resumed Running source old new i result is lanes bytes count resumes = absurd cc
 resumed Suspended source old new i result is lanes bytes count resumes = absurd cc
+
+-- a pair that took an image
+pub rings_at : (images : List PairImage) (pairs : List PairState) (i : ℕ) (e : PairImage) (d : PairState) → i < length images → i < length pairs →
+    slice_index_or (with_images images pairs) i d ≡ with_rings (slice_index_or images i e) (slice_index_or pairs i d)
+rings_at [] pairs i e d there here = absurd (omega (arith, there))
+rings_at (image ∷ images) [] i e d there here = absurd (omega (arith, here))
+rings_at (image ∷ images) (pair ∷ pairs) zero e d there here = refl
+rings_at (image ∷ images) (pair ∷ pairs) (suc i) e d there here = rings_at images pairs i e d (omega (arith, there)) (omega (arith, here))

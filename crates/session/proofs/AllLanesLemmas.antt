@@ -7,14 +7,14 @@ use Rattle.nvm_model.specs.World.{Lane, new_lane}
 use Rattle.nvm_blocks.specs.Namespace.{NamespaceState}
 use Rattle.guest_ram.specs.Window.{WindowState}
 use Rattle.hall.specs.Plan.{PlanState, pieces_of}
-use Rattle.controller.specs.Pair.{ControllerState, IsSameButPair, PairState, pair_of}
+use Rattle.controller.specs.Pair.{ControllerState, IsSameButPair, PairState, pair_of, IsPlanned, PlansLane}
 use Rattle.controller.proofs.PairLemmas.{other_pair, other_pieces}
 use Rattle.turns.specs.Parts.{SoFar, Leads}
 use Rattle.turns.proofs.PartLaws.{one_did}
 use Rattle.session.specs.declared.lane_run.LaneRun.{LaneRun}
 use Rattle.session.specs.LaneParts.{HasMore}
-use Rattle.session.specs.Lanes.{IsPlanned, IsRunOf, IsWindowOf, Stands, window_of}
-use Rattle.session.specs.Phases.{Fit, PlansLane}
+use Rattle.session.specs.Lanes.{IsRunOf, IsWindowOf, Stands, window_of}
+use Rattle.session.specs.Phases.{Fit}
 use Rattle.session.specs.Place.{AreRunsOf, PlaceState, StandsFor}
 use Rattle.session.specs.Seats.{HasSeat, IsSameButSeat, IsSameButWindow, Sits}
 use Rattle.session.specs.Shelves.{IsNamespaceOf}

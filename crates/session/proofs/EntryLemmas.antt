@@ -6,24 +6,21 @@ use Rattle.nvm_model.specs.declared.command.Outcome.TheVariants.{Done}
 use Rattle.nvm_model.specs.declared.piece.Piece.{Piece}
 use Rattle.nvm_model.specs.declared.piece.ShelfEntry.{ShelfEntry}
 use Rattle.nvm_model.specs.declared.script.Script.{Script}
-use Rattle.nvm_model.specs.World.{set_of}
 use Rattle.nvm_blocks.specs.ShelfState.{ShelfState}
 use Rattle.nvm_blocks.specs.Namespace.{Enters, HasRoom, NamespaceState, block_count, entries_at, entries_of, rooms_of}
 use Rattle.nvm_blocks.proofs.NamespaceLaws.{entered_count}
 use Rattle.hall.specs.Plan.{PlanState, pieces_of}
 use Rattle.hall.proofs.AheadLaws.{ahead, ahead_few, ahead_less, in_shelf, lies_here, lies_in, none_ahead}
 use Rattle.controller.proofs.NextLemmas.{next_fits}
-use Rattle.controller.proofs.ShelfLemmas.{lane_in_shelf}
-use Rattle.controller.specs.Pair.{pair_of}
 use Rattle.session.specs.declared.lane_run.LaneRun.{LaneRun}
 use Rattle.session.specs.Phases.{HasPlan}
 use Rattle.session.specs.Place.{PlaceState}
 use Rattle.session.specs.Seats.{DropsEntries}
 use Rattle.session.specs.Work.{AreLeft, due_piece}
 use Rattle.session.proofs.ShelvesLemmas.{same_namespace}
-use Rattle.session.proofs.OrderLemmas.{left_at}
-use Rattle.session.proofs.WorkLemmas.{planned_next}
+use Rattle.session.proofs.WorkLemmas.{left_at}
 use Rattle.hall.proofs.LaneLaws.{lane_at}
+use Rattle.controller.proofs.PlannedLemmas.{planned_next, planned_in_shelf}
 
 -- The entries of a turn's pieces: each shelf has room for those that are done and those that aren't.
 
@@ -35,9 +32,7 @@ pub rooms_first : {M : Type 0} {s : Script} {runs : List LaneRun} {plan : PlanSt
     HaveRooms s plan place.namespace left
 rooms_first {s = s} {plan = plan} {place} left has clear i some =
     let few : ahead s.head.shelf i plan.lanes left ≤ s.head.burst * length plan.lanes = ahead_few s.head.shelf i s.head.burst plan.lanes left (λ k there.
-    let is = has.planned (k + 1) (omega arith) (omega (arith, there, has.fits.count)) in
-    let own = lane_in_shelf (k + 1) s.head.shelf s.head.blocks (set_of s.head (k + 1)).pages i (pair_of place.controller (k + 1)).commands has.fit.head.shelf.0 is.checked in
-    omega (arith, ap (in_shelf s.head.shelf i) (sym (lane_at plan k) ∙ is.pieces), own, is.few)) in
+    omega (arith, ap (in_shelf s.head.shelf i) (lane_at plan k), planned_in_shelf i has.fit.head.shelf.0 (has.planned (k + 1) (omega arith) (omega (arith, there, has.fits.count))))) in
     let most : s.head.burst * length plan.lanes ≡ s.head.burst * s.head.lanes = ap (λ (n : ℕ). s.head.burst * n) has.fits.count in
     ⊎_elim (λ (none : length (get_or (entries_of place.namespace) i []) ≡ 0). omega (arith, none, few, most))
     (λ (entries : length (get_or (entries_of place.namespace) i []) ≡ 0 → ⊥). absurd (omega (

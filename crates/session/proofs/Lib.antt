@@ -5,12 +5,10 @@ pub mod MemoryLemmas
 pub mod MoveCallLemmas
 pub mod MoveLemmas
 pub mod OpenLemmas
-pub mod OrderLemmas
 pub mod PortLemmas
 pub mod RestLemmas
 pub mod SeatLemmas
 pub mod ShelvesLemmas
 pub mod StageLemmas
-pub mod StartLemmas
 pub mod TurnLemmas
 pub mod WorkLemmas

@@ -1,4 +1,4 @@
-use Rattle.std.proofs.Common.{◌≡◌, ℕ, ◌+◌, ◌-◌, ◌<◌, ◌≤◌, List, [], length, map, sum, take, get_or, sym, ap, subst, ◌∙◌, arith}
+use Rattle.std.proofs.Common.{◌≡◌, ℕ, ◌+◌, ◌-◌, ◌<◌, ◌≤◌, List, length, map, sum, take, get_or, sym, ap, subst, ◌∙◌, arith}
 use Rattle.std.proofs.lemmas.List.{length-map, ext_get_or, get_or-take, get_or-map as get_or_map}
 use Rattle.std.proofs.lemmas.List.Concat.{length-flat_map}
 use Rattle.std.proofs.lemmas.List.Sums.{sum-map}
@@ -10,12 +10,11 @@ use Rattle.nvm_model.specs.declared.script.LaneSet.{LaneSet}
 use Rattle.nvm_model.specs.ScriptText.{IsHead}
 use Rattle.nvm_model.specs.World.{window_pages}
 use Rattle.nvm_model.specs.ScriptText.{IsScript}
-use Rattle.nvm_model.specs.World.{Lane, new_lane, set_of}
-use Rattle.nvm_ring.specs.Queues.{HasWindow}
+use Rattle.nvm_model.specs.World.{Lane, new_lane}
 use Rattle.controller.specs.Pair.{ControllerState}
 use Rattle.nvm_model.specs.Run.{memory_of}
 use Rattle.session.specs.declared.lane_run.LaneRun.{LaneRun}
-use Rattle.session.specs.Lanes.{HaveWindows, IsWindowOf, window_of}
+use Rattle.session.specs.Lanes.{HaveWindows, IsWindowOf}
 use Rattle.session.specs.Place.{AreRunsOf, StandsFor}
 use Rattle.session.specs.Place.{pages_of}
 use Rattle.turns.proofs.PartLaws.{windows_from}
@@ -53,17 +52,6 @@ one_shape {s} {a} {b} have other =
     shape_at a i ∙ ap (λ (k : ℕ). (k, length (get_or a i no_window).pages)) (v.lane ∙ sym w.lane)
     ∙ ap (λ (n : ℕ). ((get_or b i no_window).lane, n)) (v.size ∙ sym w.size) ∙ sym (shape_at b i))
 
--- a memory of this shape is one of the script, too
-pub same_windows : {s : Script} {windows new : List WindowState} → HaveWindows s windows → shape new ≡ shape windows → HaveWindows s new
-same_windows {s} {windows} {new} have same =
-    record {
-      count = sym (length-map new size_of) ∙ ap (λ (shapes : List (ℕ × ℕ)). length shapes) same ∙ length-map windows size_of ∙ have.count;
-      each = λ k low high.
-          let w = have.each k low high in
-          let at = sym (shape_at new (k - 1)) ∙ ap (λ (shapes : List (ℕ × ℕ)). get_or shapes (k - 1) (0, 0)) same ∙ shape_at windows (k - 1) in
-          record { lane = ap (λ (p : ℕ × ℕ). p.0) at ∙ w.lane; size = ap (λ (p : ℕ × ℕ). p.1) at ∙ w.size };
-    }
-
 -- a memory has as many pages as the script says
 pub have_pages : {s : Script} {windows : List WindowState} → IsHead s.head → HaveWindows s windows → length (all_pages windows) ≡ window_pages s.head
 have_pages {s} {windows} head have =
@@ -92,24 +80,3 @@ whole_memory {s} {runs} {windows = windows} {lanes} is are have stands =
     let few : k ≤ s.head.lanes = omega (arith, there, stands.count) in
     let d = element_at runs 0 (omega (arith, are.count, is.head.lanes)) in
     get_or-map pages windows (k - 1) no_window ∙ window_whole s.head k (stands.each k d (new_lane 0) first few).window_is)
-
--- what stands for lanes over a memory does so over one of the same pages
-pub same_pages : {s : Script} {runs : List LaneRun} {controller : ControllerState} {windows new : List WindowState} {lanes : List Lane} → HaveWindows s windows → HaveWindows s new → pages_of new ≡ pages_of windows →
-    StandsFor s runs controller windows lanes → StandsFor s runs controller new lanes
-same_pages {s} {runs} {controller} {windows} {new} {lanes} have has same is = record {
-  count = is.count;
-  each = λ k d e first few.
-      let old = is.each k d e first few in
-      let pages : (window_of new k).pages ≡ (window_of windows k).pages =
-      sym (get_or-map (λ (w : WindowState). w.pages) new (k - 1) no_window) ∙ ap (λ (ps : List (List (List ℕ))). get_or ps (k - 1) []) same ∙ get_or-map (λ (w : WindowState). w.pages) windows (k - 1) no_window in
-      record {
-        number = (has.each k first few).lane;
-        guest = old.guest;
-        window_is = subst (λ (ps : List (List ℕ)). HasWindow k (set_of s.head k) ps (get_or lanes (k - 1) e)) (sym pages) old.window_is;
-        ordered = old.ordered;
-        guest_ends = old.guest_ends;
-        ends = old.ends;
-        acts = old.acts;
-        running = old.running;
-      };
-}

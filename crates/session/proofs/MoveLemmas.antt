@@ -1,14 +1,7 @@
-use Rattle.std.proofs.Common.{◌≡◌, ℕ, zero, suc, ◌+◌, ◌-◌, ◌*◌, ◌^◌, ◌/◌, ◌<◌, ◌≤◌, Bool, true, List, [], ◌∷◌, ◌++◌, Result, Ok, Err, drop, get_or, length, map, min, replicate, sum, take, refl, sym, ap, subst, ◌∙◌, arith}
+use Rattle.std.proofs.Common.{◌≡◌, ℕ, ◌+◌, ◌-◌, ◌*◌, ◌/◌, ◌<◌, ◌≤◌, Bool, true, List, ◌∷◌, ◌++◌, Result, Ok, Err, get_or, length, min, refl, sym, ap, subst, ◌∙◌, arith}
 use Rattle.nvm_ring.specs.Places.{IsRing}
-use Rattle.std.specs.List.{All, range_with_len}
-use Rattle.std.proofs.Math.ListN.{get_or-map}
 use Rattle.std.proofs.Math.Nat.{mod-lt, mul-div_cancel}
-use Rattle.std.proofs.Math.Seq.{drop-append_seam, take-append_seam}
-use Rattle.std.proofs.lemmas.List.{length-append, length-map, length-replicate, length-take-le}
-use Rattle.std.proofs.lemmas.List.Elements.{All-from_get_or}
-use Rattle.std.proofs.lemmas.List.Sums.{sum_by-cons}
 use Rattle.nvm_model.specs.declared.script.Head.{Head}
-use Rattle.nvm_model.specs.declared.script.LaneSet.{LaneSet}
 use Rattle.nvm_model.specs.declared.script.Script.{Script}
 use Rattle.nvm_model.specs.declared.trace.Step.{Step}
 use Rattle.nvm_model.specs.Chain.{Chain}
@@ -20,11 +13,10 @@ use Rattle.nvm_model.specs.World.{new_lane, window_pages}
 use Rattle.turns.proofs.ScriptLaws.{few_pages, set_fits, some_pages}
 use Rattle.guest_ram.specs.Ram.{all_pages}
 use Rattle.nvm_blocks.specs.Namespace.{block_count}
-use Rattle.ctl_state.specs.declared.image.PairState.{PairState as PairImage}
-use Rattle.ctl_state.specs.Image.{IsPair, none}
+use Rattle.ctl_state.specs.Image.{IsPair}
 use Rattle.controller.specs.declared.controller.Phase.TheVariants as phase
 use Rattle.controller.specs.Admin.{image_of}
-use Rattle.controller.specs.Pair.{ControllerState, PairState, no_pair}
+use Rattle.controller.specs.Pair.{ControllerState, no_pair}
 use Rattle.manager.specs.declared.manager.MediumFault.{MediumFault}
 use Rattle.manager.specs.declared.manager.MovePhase.TheVariants.{Begun}
 use Rattle.manager.specs.declared.manager.MoveSet.{MoveSet}
@@ -32,8 +24,8 @@ use Rattle.manager.specs.declared.manager.Pause.{Pause}
 use Rattle.manager.specs.declared.side.Side.{Side}
 use Rattle.manager.specs.declared.side.Side.TheVariants.{From}
 use Rattle.manager.specs.Asks.{Asked, cut_over_asks, resume_asks, stopped_asks}
-use Rattle.manager.specs.Move.{Covers, Fits, HasImage, HoldsSame, IsGivenUp, IsMoveSet, LeavesSource, ManagerState, MayCutOver, with_all}
-use Rattle.manager.specs.Owed.{places_from, places_of}
+use Rattle.manager.specs.Move.{Covers, Fits, HoldsSame, IsGivenUp, IsMoveSet, LeavesSource, ManagerState, MayCutOver, with_all}
+use Rattle.manager.specs.Owed.{places_of}
 use Rattle.manager.specs.Port.{PortCall, PortState, SideState, with_media_of}
 use Rattle.manager.proofs.AskLemmas.{asked_more}
 use Rattle.manager.proofs.CallLaws.{AreMoveCalls, cut_calls, stopped_calls}

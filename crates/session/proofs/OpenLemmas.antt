@@ -1,21 +1,90 @@
-use Rattle.std.proofs.Common.{◌≡◌, ℕ, ◌+◌, ◌-◌, ◌≤◌, inr, false, Option, Some, None, List, length, slice_index_or, take, refl, sym, ap, ◌∙◌, arith}
-use Rattle.std.proofs.lemmas.List.{get_or-map, length-map}
+use Rattle.std.proofs.Common.{◌≡◌, ℕ, ◌+◌, ◌-◌, ◌≤◌, List, length, map, replicate, slice_index_or, take, sym, ap, subst, ◌∙◌, arith, inr, false, Option, Some, None, refl}
+use Rattle.std.proofs.Math.Nat.{zero-div, zero-mod}
+use Rattle.std.proofs.lemmas.List.{get_or-map, length-map, length-replicate}
 use Rattle.nvm_model.specs.declared.script.LaneSet.{LaneSet}
 use Rattle.nvm_model.specs.declared.script.Script.{Script}
-use Rattle.nvm_model.specs.ScriptText.{IsScript, IsTurn}
-use Rattle.nvm_model.specs.World.{set_of}
+use Rattle.nvm_model.specs.ScriptText.{IsScript, IsTurn, IsSet}
+use Rattle.nvm_model.specs.World.{set_of, Lane, new_lane}
 use Rattle.controller.specs.declared.controller.Phase.{Phase}
 use Rattle.controller.specs.declared.controller.Phase.TheVariants.{Loading, Running}
-use Rattle.controller.specs.Pair.{ControllerState, IsMade, PairState, new_pair, no_pair, pair_of}
+use Rattle.controller.specs.Pair.{ControllerState, IsMade, PairState, new_pair, no_pair, pair_of, outcomes_of, worked}
 use Rattle.nvm_model.specs.Run.{Here, start_lanes}
-use Rattle.session.specs.Opened.{IsNewPlace, Opens}
+use Rattle.session.specs.Opened.{IsNewPlace, Opens, memory_made}
 use Rattle.session.specs.Place.{AreQuiet, IsPlaceOf, IsWaiting, PlaceState, StandsFor, StandsOn}
-use Rattle.session.specs.Sides.{IsAhead, IsNewSession, SessionState, machine_of, turns_ahead}
+use Rattle.nvm_model.specs.Memory.{zero_page}
+use Rattle.nvm_ring.specs.Queues.{HasWindow}
+use Rattle.guest_ram.specs.Window.{WindowState}
+use Rattle.lanes.proofs.StartLemmas.{new_stands as guest_starts}
+use Rattle.lanes.specs.Guest.{GuestState}
+use Rattle.session.specs.declared.lane_run.LaneRun.{LaneRun}
+use Rattle.session.specs.Lanes.{HaveWindows, IsNewRun, Stands, window_of}
+use Rattle.turns.proofs.ScriptLaws.{set_fits, count_sets, set_at, start_at, start_count}
+use Rattle.guest_ram.proofs.Made.{made_at, made_count}
+use Rattle.turns.specs.Ahead.{IsAhead, turns_ahead}
+use Rattle.session.specs.Sides.{IsNewSession, SessionState, machine_of}
 use Rattle.ctl_state.specs.Parts.{PartsState}
 use Rattle.session.proofs.MemoryLemmas.{whole_memory}
 use Rattle.session.proofs.RestLemmas.{all_quiet}
-use Rattle.session.proofs.StartLemmas.{have_made, new_stands}
-use Rattle.turns.proofs.ScriptLaws.{count_sets, set_at}
+
+-- A run at its start.
+
+-- a host's memory as it is made for a script
+made_windows : (s : Script) (windows : List WindowState) → IsScript s → windows ≡ memory_made s.head → (k : ℕ) → 1 ≤ k → k ≤ s.head.lanes → window_of windows k ≡ record { lane = k; pages = replicate ((set_of s.head k).pages + 2) zero_page }
+made_windows s windows is made k first few =
+    let counts = map (λ (set : LaneSet). set.pages) (take s.head.lanes s.head.sets) in
+    let count = count_sets s.head is.head in
+    let many = length-map (take s.head.lanes s.head.sets) (λ (set : LaneSet). set.pages) in
+    let number : 1 + (k - 1) ≡ k = omega (arith, first) in
+    let none : LaneSet = record { sq = 0; cq = 0; pages = 0 } in
+    let pages : slice_index_or counts (k - 1) 0 ≡ (set_of s.head k).pages =
+    get_or-map (λ (set : LaneSet). set.pages) (take s.head.lanes s.head.sets) (k - 1) none 0 (omega (arith, count, first, few)) ∙ ap (λ (set : LaneSet). set.pages) (set_at s.head k none is.head first few) in
+    ap (λ (ws : List WindowState). window_of ws k) made ∙ made_at 1 (k - 1) counts (omega (arith, many, count, first, few))
+    ∙ ap (λ (j : ℕ). record { lane = j; pages = replicate (slice_index_or counts (k - 1) 0 + 2) zero_page }) number
+    ∙ ap (λ (n : ℕ). record { lane = k; pages = replicate (n + 2) zero_page }) pages
+
+pub have_made : {s : Script} {windows : List WindowState} → IsScript s → windows ≡ memory_made s.head → HaveWindows s windows
+have_made {s} {windows} is made = record {
+  count = ap length made ∙ made_count 1 (map (λ (set : LaneSet). set.pages) (take s.head.lanes s.head.sets)) ∙ length-map (take s.head.lanes s.head.sets) (λ (set : LaneSet). set.pages) ∙ count_sets s.head is.head;
+  each = λ k first few.
+      let at = made_windows s windows is made k first few in
+      record { lane = ap (λ (w : WindowState). w.lane) at; size = ap (λ (w : WindowState). length w.pages) at ∙ length-replicate ((set_of s.head k).pages + 2) zero_page };
+}
+
+-- a new run with a new pair over a zeroed window stands for a new lane
+new_lane_stands : {s : Script} {k : ℕ} {run : LaneRun} {pair : PairState} {window : WindowState} → IsSet (set_of s.head k) → IsNewRun s k run → pair ≡ new_pair s.head.burst (set_of s.head k) →
+    window ≡ record { lane = k; pages = replicate ((set_of s.head k).pages + 2) zero_page } → Stands s k run pair window (new_lane (set_of s.head k).pages)
+new_lane_stands {s} {k} {run} {pair} {window} set new pair_is window_is =
+    let sizes = set_of s.head k in
+    let lane : run.guest.lane ≡ k = ap (λ (g : GuestState). g.lane) new.guest in
+    let own : window ≡ record { lane = run.guest.lane; pages = replicate (sizes.pages + 2) zero_page } = window_is ∙ ap (λ (j : ℕ). record { lane = j; pages = replicate (sizes.pages + 2) zero_page }) (sym lane) in
+    let guest = guest_starts set own (ap (λ (g : GuestState). g.waiting) new.guest) (ap (λ (g : GuestState). g.sq) new.guest) (ap (λ (g : GuestState). g.cq) new.guest) in
+    record {
+      number = guest.number ∙ lane;
+      guest = lane;
+      window_is = subst (λ (j : ℕ). HasWindow j sizes window.pages (new_lane sizes.pages)) lane guest.window_is;
+      ordered = guest.ordered;
+      guest_ends = guest.ends;
+      ends = record {
+        sq_is = rw (zero-mod sizes.sq) (ap (λ (p : PairState). p.sq) pair_is);
+        cq_is = rw (zero-mod sizes.cq, zero-div sizes.cq) (ap (λ (p : PairState). p.cq) pair_is);
+      };
+      acts = sym new.acts;
+      running = ap (λ cs. worked s.head.shelf cs (outcomes_of run.results.items)) (sym (ap (λ (p : PairState). p.commands) pair_is));
+    }
+
+-- new runs and a new controller over zeroed windows stand for the lanes at the start
+pub new_stands : {s : Script} {runs : List LaneRun} {controller : ControllerState} {windows : List WindowState} → IsScript s →
+    ((k : ℕ) (d : LaneRun) → 1 ≤ k → k ≤ s.head.lanes → IsNewRun s k (slice_index_or runs (k - 1) d)) →
+    ((k : ℕ) → 1 ≤ k → k ≤ s.head.lanes → pair_of controller k ≡ new_pair s.head.burst (set_of s.head k)) →
+    windows ≡ memory_made s.head → StandsFor s runs controller windows (start_lanes s) × AreQuiet s runs controller
+new_stands {s} {runs} {controller} {windows} is new pairs made = (
+  record {
+    count = start_count s is.head;
+    each = λ k d e first few. subst (λ (l : Lane). Stands s k (slice_index_or runs (k - 1) d) (pair_of controller k) (window_of windows k) l) (sym (start_at s k e is.head first few))
+        (new_lane_stands (set_fits s.head k is.head first few) (new k d first few) (pairs k first few) (made_windows s windows is made k first few));
+  },
+  record { commands = λ k first few. ap (λ (p : PairState). p.commands) (pairs k first few); results = λ k d first few. (new k d first few).results },
+)
 
 -- A session with two places as they are opened.
 

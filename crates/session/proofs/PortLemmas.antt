@@ -1,68 +1,28 @@
-use Rattle.std.proofs.Common.{◌≡◌, ℕ, ◌*◌, ◌-◌, ◌^◌, ◌<◌, ◌≤◌, ◌⊎◌, inl, inr, Bool, true, false, List, [], ◌∷◌, Option, Some, None, Result, Ok, Err, length, refl, ap, ◌∙◌, arith}
-use Rattle.std.specs.Prelude.{All, IfSome, is_err, min, sum}
-use Rattle.std.proofs.lemmas.Bool.{cases_lt}
-use Rattle.std.proofs.lemmas.List.Elements.{All-cons}
-use Rattle.std.proofs.lemmas.List.Sums.{sum_by-cons}
-use Rattle.mig_base.specs.Count.{RiseBy, RisesBy}
+use Rattle.std.proofs.Common.{◌≡◌, ℕ, ◌<◌, Bool, true, false, List, [], ◌∷◌, Option, Result, Ok, Err, length, refl, ap, ◌∙◌, arith}
+use Rattle.std.specs.Prelude.{is_err, min, sum}
 use Rattle.mig_base.proofs.CountLemmas.{never_sum}
 use Rattle.nvm_model.specs.declared.trace.Step.{Step}
-use Rattle.nvm_model.specs.Medium.{At, MediumState, StayTold, marks_at, sent}
+use Rattle.nvm_model.specs.Medium.{At, MediumState, marks_at, sent}
 use Rattle.nvm_model.specs.Run.{at_block, get_of}
 use Rattle.nvm_blocks.specs.Namespace.{HasCalled, NamespaceState, block_call, block_count, faults_of}
 use Rattle.nvm_model.specs.Chain.{Chain}
 use Rattle.nvm_model.proofs.ChainLemmas.{chain_keeps}
-use Rattle.nvm_blocks.proofs.NamespaceLaws.{called_same, was_marked, was_put, was_read}
+use Rattle.manager.proofs.PortLaws.{always, rises_sum, stay, stay_same}
+use Rattle.nvm_blocks.proofs.NamespaceLaws.{called_same, same_count, was_marked, was_put, was_read}
 use Rattle.manager.specs.declared.side.CopyAnswer.{CopyAnswer}
 use Rattle.manager.specs.declared.side.CopyAnswer.TheVariants.{Copied, Fault}
 use Rattle.manager.specs.declared.side.Side.TheVariants.{From, To}
 use Rattle.manager.specs.Port.{IsPortCall, PortCall}
 use Rattle.manager.specs.Port.PortCall.{Copy as Copying}
 use Rattle.session.specs.Place.{PlaceState}
-use Rattle.session.specs.Port.{CallsPlace, DestCall, DestState, Ends, IsDestCall, dest_of_place, moves_ends, moves_place, moves_port, port_of, side_of_place}
+use Rattle.session.specs.Port.{CallsPlace, DestCall, DestState, Ends, IsDestCall, dest_of_place, moves_place, moves_port, port_of, side_of_place}
 use Rattle.session.specs.Port.DestCall.{Put, Mark}
-
--- What is told, and counts.
-
-stay_same : {B : Type 0} (P : B → Type 0) (old new : Option B) → new ≡ old → IfSome old P → StayTold (λ x y. (y ≡ x) × P x) old new
-stay_same P None None e p = tt
-stay_same P None (Some y) e p = absurd cc
-stay_same P (Some x) None e p = absurd cc
-stay_same P (Some x) (Some y) e p = (cc, p)
-
-always : {B : Type 0} (old : Option B) → IfSome old (λ _. Unit {0})
-always None = tt
-always (Some x) = tt
-
-stay : {B : Type 0} (old new : Option B) → new ≡ old → StayTold (λ x y. y ≡ x) old new
-stay None None e = tt
-stay None (Some y) e = absurd cc
-stay (Some x) None e = absurd cc
-stay (Some x) (Some y) e = cc
-
-below_sum : (m : ℕ) (xs : List ℕ) → sum xs < m → All (λ (x : ℕ). x < m) xs
-below_sum m [] h = λ i d there. absurd (omega (arith, there))
-below_sum m (x ∷ xs) h =
-    let e = sum_by-cons (λ (k : ℕ). k) x xs in
-    All-cons (λ (k : ℕ). k < m) x xs (omega (arith, h, e)) (below_sum m xs (omega (arith, h, e)))
-
--- a rise of several counts is one of their sum
-rises_sum : (a b : List ℕ) → RiseBy 1 a b → RisesBy 1 (sum a) (sum b)
-rises_sum a b h = of (cases_lt (sum b) (2 ^ 64 - 1))
-  where
-    of : (sum b < 2 ^ 64 - 1) ⊎ (2 ^ 64 - 1 ≤ sum b) → RisesBy 1 (sum a) (sum b)
-    of (inl low) = omega (arith, h (below_sum (2 ^ 64 - 1) b low))
-    of (inr high) = omega (arith, high)
 
 -- A place's calls.
 
 place_called : {M I : Type 0} {state : M → MediumState I} {moves : I → Step → Bool → I → Type 0} {calls : List At} (p : PlaceState M) (n : NamespaceState M) →
     HasCalled state moves p.namespace calls n → CallsPlace state moves calls p (record p { namespace = n })
 place_called p n h = record { called = h.made; same = record { shelves = called_same h; rest = refl } }
-
-same_count : {M I : Type 0} {state : M → MediumState I} {moves : I → Step → Bool → I → Type 0} {calls : List At} {n new : NamespaceState M} → HasCalled state moves n calls new → block_count new ≡ block_count n
-same_count {n = n} {new} h =
-    let same = called_same h in
-    ap (λ (k : ℕ). k * new.shelf) same.count ∙ ap (λ (k : ℕ). length n.shelves * k) same.shelf
 
 pub place_put : {M I T E : Type 0} {state : M → MediumState I} {moves : I → Step → Bool → I → Type 0} (b : ℕ) (bytes : List ℕ) (result : Result T E) (p : PlaceState M) (n : NamespaceState M) →
     HasCalled state moves p.namespace (block_call p.namespace b (λ place. sent place bytes (is_err result)) ∷ []) n →
@@ -71,7 +31,7 @@ place_put {T = T} {E} {state} b bytes (Ok x) p n h =
     let w = was_put {T = T} {E = E} b bytes (Ok x) h in
     record {
       does = record { written = w.put; later = never_sum _ _ w.cause.later; cause = tt; is = refl };
-      count = same_count h;
+      count = same_count (called_same h);
       left = omega arith;
       moved = place_called p n h;
     }
@@ -79,7 +39,7 @@ place_put {T = T} {E} {state} b bytes (Err x) p n h =
     let w = was_put {T = T} {E = E} b bytes (Err x) h in
     record {
       does = record { written = stay _ _ w.kept; later = never_sum _ _ w.cause.later; cause = rises_sum (faults_of state p.namespace) (faults_of state n) (w.cause.failed refl); is = refl };
-      count = same_count h;
+      count = same_count (called_same h);
       left = omega arith;
       moved = place_called p n h;
     }
@@ -91,7 +51,7 @@ place_mark {state = state} mark p n h =
     let w = was_marked mark h in
     record {
       does = ap (λ (x : Option (List (List ℕ)) × List ℕ). record (side_of_place state p) { blocks = x.0; faults = sum x.1 }) (λ i. (w.0 i, w.1 i));
-      count = same_count h;
+      count = same_count (called_same h);
       left = omega arith;
       moved = place_called p n h;
     }
@@ -115,7 +75,7 @@ copy_not_got {state = state} dest names b p n d there h =
         from_is = refl;
         to_is = refl;
       };
-      count = ap (λ (k : ℕ). min k d.count) (same_count h);
+      count = ap (λ (k : ℕ). min k d.count) (same_count (called_same h));
       left = omega arith;
       moved = (refl, (place_called p n h, refl));
     }
@@ -142,7 +102,7 @@ copy_got names b bytes false p n d new there h put =
         from_is = refl;
         to_is = put.does.is;
       };
-      count = ap (λ (k : ℕ). min k new.count) (same_count h) ∙ ap (min (block_count p.namespace)) put.count;
+      count = ap (λ (k : ℕ). min k new.count) (same_count (called_same h)) ∙ ap (min (block_count p.namespace)) put.count;
       left = put.left;
       moved = (refl, (place_called p n h, put.moved));
     }
@@ -159,7 +119,7 @@ copy_got names b bytes true p n d new there h put =
         from_is = refl;
         to_is = put.does.is;
       };
-      count = ap (λ (k : ℕ). min k new.count) (same_count h) ∙ ap (min (block_count p.namespace)) put.count;
+      count = ap (λ (k : ℕ). min k new.count) (same_count (called_same h)) ∙ ap (min (block_count p.namespace)) put.count;
       left = put.left;
       moved = (refl, (place_called p n h, put.moved));
     }
@@ -171,9 +131,3 @@ pub names_kept : {M I J : Type 0} (state : M → MediumState I) (moves : I → S
     Chain (moves_port state moves dest) old calls new → new.names ≡ old.names
 names_kept {M} {J = J} state moves dest old new calls c =
     chain_keeps (moves_port state moves dest) (λ (e : Ends M J). e.names ≡ old.names) (λ x call y r same. r.0 ∙ same) old calls new c refl
-
--- and its ends go on by the calls
-pub ends_moved : {M I J : Type 0} (state : M → MediumState I) (moves : I → Step → Bool → I → Type 0) (dest : J → DestCall → J → Type 0) (old new : Ends M J) (calls : List PortCall) →
-    Chain (moves_port state moves dest) old calls new → Chain (moves_ends state moves dest) old calls new
-ends_moved state moves dest old new [] c = c
-ends_moved state moves dest old new (call ∷ calls) c = (c.0, c.1.1, ends_moved state moves dest c.0 new calls c.2)

@@ -1,4 +1,4 @@
-use Rattle.std.proofs.Common.{◌≡◌, ◌⊎◌, inl, inr, ⊎_elim, ℕ, zero, suc, ◌+◌, ◌-◌, ◌<◌, ◌≤◌, slice_index_or, map, Bool, true, false, Option, Some, None, Result, Ok, Err, List, [], ◌∷◌, length, refl, sym, ap, subst, ◌∙◌, arith}
+use Rattle.std.proofs.Common.{◌≡◌, ℕ, ◌+◌, ◌-◌, ◌≤◌, slice_index_or, map, Bool, true, false, None, Result, Ok, Err, List, [], ◌∷◌, length, refl, sym, ap, subst, ◌∙◌, arith, ◌↔◌}
 use Rattle.std.specs.Prelude.{IfOk, IsTrue, is_err}
 use Rattle.std.proofs.Math.ListN.{get_or-map}
 use Rattle.std.proofs.lemmas.List.{length-map}
@@ -6,13 +6,12 @@ use Rattle.mig_base.specs.Stream.{Writes}
 use Rattle.nvm_model.specs.declared.line.Line.{Line}
 use Rattle.nvm_model.specs.declared.line.Line.TheVariants as line
 use Rattle.nvm_model.specs.declared.trace.Step.{Step}
-use Rattle.nvm_model.specs.Chain.{Chain}
 use Rattle.nvm_model.specs.History.{Complete}
-use Rattle.nvm_model.specs.Medium.{At, IsAt, MediumState}
+use Rattle.nvm_model.specs.Medium.{IsAt, MediumState}
 use Rattle.nvm_model.specs.Text.{text_of}
 use Rattle.nvm_model.specs.World.{Lane}
 use Rattle.controller.specs.Pair.{ControllerState, PairState, no_pair, outcomes_of, pair_of, worked}
-use Rattle.controller.specs.Admin.{image_of, with_images, with_rings}
+use Rattle.controller.specs.Admin.{image_of, with_rings}
 use Rattle.controller.proofs.AdminLemmas.{length-with_images}
 use Rattle.ctl_state.specs.declared.image.PairState.{PairState as PairImage}
 use Rattle.manager.specs.Move.{ManagerState, gone_on_with}
@@ -24,21 +23,25 @@ use Rattle.nvm_blocks.specs.Namespace.{media_of}
 use Rattle.nvm_model.specs.declared.run.RunPhase.TheVariants.{New, Running, Suspended, Over}
 use Rattle.nvm_model.specs.declared.run.Side.{Side}
 use Rattle.nvm_model.specs.declared.run.Side.TheVariants.{Source, Destination}
-use Rattle.nvm_model.specs.Run.{AreComplete, CopiesAll, CopiesUpTo, Copy, Here, IsDue, IsTurn, SinkState, Snapshot, Task, all_blocks, among, here, left_calls, lines_of, memory_of, opposite, taken_calls, turn_lines}
+use Rattle.nvm_model.specs.Run.{AreComplete, CopiesAll, CopiesUpTo, Here, IsTurn, SinkState, Snapshot, Task, all_blocks, among, here, left_calls, lines_of, memory_of, opposite, taken_calls, turn_lines}
 use Rattle.nvm_model.specs.Run.Stage.{Title, Turn, Begin, Resume, GiveUp, End}
-use Rattle.turns.proofs.RunLaws.{went_more, went_none, went_sent}
-use Rattle.session.specs.declared.ending.Ending.TheVariants.{Done, GaveUp}
+use Rattle.turns.proofs.RunLaws.{went_more, went_none, went_sent, sent_from}
+use Rattle.turns.specs.Ahead.{less_one}
+use Rattle.turns.proofs.AheadLaws.{ahead_less, due_is, not_due}
 use Rattle.session.specs.declared.lane_run.LaneRun.{LaneRun}
 use Rattle.session.specs.declared.order.Order.{Order}
 use Rattle.manager.specs.declared.manager.Pause.{Pause}
 use Rattle.session.specs.Moves.{Moves, Stays, Tries, both}
 use Rattle.session.specs.Lanes.{HaveWindows}
 use Rattle.nvm_model.specs.Told.{serial}
-use Rattle.session.specs.Place.{AreAllDone, DoesTurn, IsReady, IsWaiting, PlaceState, StandsFor, StandsOn, machine, pages_of}
-use Rattle.session.specs.Sides.{Goes, IsAhead, IsDueAfter, IsEnding, IsMoveDue, IsOnward, IsRunning, SessionState, Sides, at_side, by_side, less_one, machine_of, sides, turns_ahead}
+use Rattle.session.specs.Place.{IsPlaceOf, AreAllDone, DoesTurn, IsReady, IsWaiting, PlaceState, StandsFor, StandsOn, machine, pages_of}
+use Rattle.session.specs.Sides.{Goes, IsMoveDue, IsOnward, IsRunning, SessionState, Sides, at_side, by_side, machine_of, sides}
 use Rattle.session.proofs.MemoryLemmas.{whole_memory}
 use Rattle.session.proofs.ShelvesLemmas.{same_namespace}
 use Rattle.session.proofs.RestLemmas.{complete_is, done_is}
+use Rattle.turns.proofs.CopyLaws.{calls_along}
+use Rattle.manager.proofs.StateLemmas.{rings_at}
+use Rattle.controller.specs.declared.controller.Phase.TheVariants.{Running as Started}
 
 -- What code did as stages of a run, whatever run it stood for.
 
@@ -60,46 +63,8 @@ onward_more a b = record {
   running = b.running;
 }
 
--- a text went out from where the run stood
-sent_from : {T E : Type 0} {text : List ℕ} {at out sent : SinkState} {result : Result T E} → at ≡ out → Writes text out.taken sent.taken out.faults sent.faults result → Writes text at.taken sent.taken at.faults sent.faults result
-sent_from {text = text} {sent = sent} {result = result} is w = subst (λ (o : SinkState). Writes text o.taken sent.taken o.faults sent.faults result) (sym is) w
-
--- When a migration is due.
-
-some_is : {m n : ℕ} → Some m ≡ Some n → m ≡ n
-some_is e = cc
-
 pub not_true : {b : Bool} → b ≡ false → IsTrue b → ⊥
 not_true is true_is = absurd cc
-
--- what a migration that is due waits for
-pub due_map : (ahead : Option ℕ) {P Q : Type 0} → (P → Q) → IsDueAfter ahead P → IsDueAfter ahead Q
-due_map None f due = due
-due_map (Some n) f (inl none) = inl none
-due_map (Some n) f (inr done) = inr (f done)
-
-due_is : {M : Type 0} (t : Snapshot M) (ahead : Option ℕ) {done : Type 0} → IsAhead t.tried t.task.script.head.migrate t.turns ahead → (done → AreComplete t) → IsDueAfter ahead done → IsDue t
-due_is t None is complete due = absurd due
-due_is t (Some n) is complete (inl none) = record { untried = is.0; turn = t.turns + n + 1; asked = is.1; when = inl (omega (arith, none)) }
-due_is t (Some n) is complete (inr done) = record { untried = is.0; turn = t.turns + n + 1; asked = is.1; when = inr (complete done) }
-
-not_due : {M : Type 0} (t : Snapshot M) (ahead : Option ℕ) {done : Type 0} → IsAhead t.tried t.task.script.head.migrate t.turns ahead → (AreComplete t → done) → (IsDueAfter ahead done → ⊥) → IsDue t → ⊥
-not_due t None is done none due = let same : Some due.turn ≡ None = sym due.asked ∙ is due.untried in absurd cc
-not_due t (Some n) is done none due =
-    let same : due.turn ≡ t.turns + n + 1 = some_is (sym due.asked ∙ is.1) in
-    ⊎_elim (λ (next : t.turns + 1 ≡ due.turn). none (inl (omega (arith, next, same)))) (λ complete. none (inr (done complete))) due.when
-
-ahead_less : (tried : Bool) (migrate : Option ℕ) (turns : ℕ) (ahead : Option ℕ) (done : Type 0) → IsAhead tried migrate turns ahead → (IsDueAfter ahead done → ⊥) → IsAhead tried migrate (turns + 1) (less_one ahead)
-ahead_less tried migrate turns None done is none = is
-ahead_less tried migrate turns (Some n) done is none =
-    ⊎_elim (λ (zero_is : n ≡ 0). absurd (none (inl zero_is)))
-    (λ (some : 1 ≤ n).
-    let same : turns + n + 1 ≡ turns + 1 + (n - 1) + 1 = omega (arith, some) in
-    (is.0, is.1 ∙ ap (λ (k : ℕ). Some k) same)) (zero_or n)
-  where
-    zero_or : (n : ℕ) → (n ≡ 0) ⊎ (1 ≤ n)
-    zero_or zero = inl refl
-    zero_or (suc n) = inr (omega arith)
 
 -- All is done exactly where all lanes are complete.
 
@@ -175,10 +140,6 @@ goes_turn {M} {I} {T} {E} {state} {moves} {s} {at} {new_at} {other} {out} {sent}
 
 -- The move.
 
--- calls of a move between media that are the same
-calls_along : {M : Type 0} {s : Script} {k : Task} {a b : List M} (R : List M → At → List M → Type 0) (x : List M) (calls : Script → List Copy → List At) (copies : List Copy) → k ≡ serial s → b ≡ a → Chain R a (calls s copies) x → Chain R b (calls k.script copies) x
-calls_along {M} {s} {k} {a} {b} R x calls copies task media c = subst (λ (j : Task). Chain R b (calls j.script copies) x) (sym task) (subst (λ (m : List M). Chain R m (calls s copies) x) (sym media) c)
-
 -- two controllers have the same rings, and no command under way
 record HaveSameRings (s : Script) (old new : ControllerState) : Type 0 where
   sq : (k : ℕ) → 1 ≤ k → k ≤ s.head.lanes → (pair_of new k).sq ≡ (pair_of old k).sq
@@ -202,14 +163,6 @@ stands_with {s} {runs} same stands = record {
       };
 }
 
--- a pair that took an image
-rings_at : (images : List PairImage) (pairs : List PairState) (i : ℕ) (e : PairImage) (d : PairState) → i < length images → i < length pairs →
-    slice_index_or (with_images images pairs) i d ≡ with_rings (slice_index_or images i e) (slice_index_or pairs i d)
-rings_at [] pairs i e d there here = absurd (omega (arith, there))
-rings_at (image ∷ images) [] i e d there here = absurd (omega (arith, here))
-rings_at (image ∷ images) (pair ∷ pairs) zero e d there here = refl
-rings_at (image ∷ images) (pair ∷ pairs) (suc i) e d there here = rings_at images pairs i e d (omega (arith, there)) (omega (arith, here))
-
 module _ {M : Type 0} (s : SessionState) (new : ControllerState) {at to : PlaceState M} (ready : IsReady s.script (machine_of s at)) (waits : IsWaiting s.script to)
     (is : new ≡ record (gone_on_with (map image_of at.controller.pairs) to.controller) { fed = new.fed }) where
   pair_there : (k : ℕ) → 1 ≤ k → k ≤ s.script.head.lanes → pair_of new k ≡ with_rings (image_of (pair_of at.controller k)) (pair_of to.controller k)
@@ -232,28 +185,32 @@ module _ {M : Type 0} (s : SessionState) (new : ControllerState) {at to : PlaceS
   pairs_there : length new.pairs ≡ s.script.head.lanes
   pairs_there = ap (λ (c : ControllerState). length c.pairs) is ∙ length-with_images (map image_of at.controller.pairs) to.controller.pairs ∙ waits.at.pairs
 
+-- a machine is ready where its guests stand on that place
+ready_at : {M : Type 0} (s : SessionState) {at new : PlaceState M} (ready : IsReady s.script (machine_of s at)) → IsPlaceOf s.script new → new.controller.phase ≡ Started →
+    ((k : ℕ) → 1 ≤ k → k ≤ s.script.head.lanes → (pair_of new.controller k).commands ≡ []) → StandsFor s.script s.runs new.controller new.windows ready.stood.lanes → IsReady s.script (machine_of s new)
+ready_at s {at} {new} ready place running quiet lanes = record {
+  script = ready.script;
+  runs = ready.runs;
+  place = place;
+  running = running;
+  mix = ready.mix;
+  quiet = record { commands = quiet; results = ready.quiet.results };
+  stood = record ready.stood { media = media_of new.namespace };
+  stands = record { lanes = lanes; media = refl; words = ready.stands.words };
+}
+
 module _ {M I : Type 0} {state : M → MediumState I} {moves : I → Step → Bool → I → Type 0} (s : SessionState) {at to new_at new_to : PlaceState M} (ready : IsReady s.script (machine_of s at)) where
   -- what stood for lanes here stands for them there
   lanes_there : IsWaiting s.script to → (m : Moves state moves s.script (both at to) (both new_at new_to)) → (lanes : List Lane) → StandsFor s.script s.runs at.controller at.windows lanes → StandsFor s.script s.runs new_to.controller new_to.windows lanes
   lanes_there waits m lanes stands = subst (λ (ws : List WindowState). StandsFor s.script s.runs new_to.controller ws lanes) (sym m.to_memory) (stands_with (rings_there s new_to.controller ready waits m.controllers.1) stands)
 
-  -- a machine is ready there
   pub ready_there : IsWaiting s.script to → Moves state moves s.script (both at to) (both new_at new_to) → IsReady s.script (machine_of s new_to)
-  ready_there waits m = record {
-    script = ready.script;
-    runs = ready.runs;
-    place = record {
-      namespace = same_namespace waits.at.namespace m.crosses.to_shelves;
-      windows = subst (HaveWindows s.script) (sym m.to_memory) ready.place.windows;
-      pairs = pairs_there s new_to.controller ready waits m.controllers.1;
-      burst = ap (λ (c : ControllerState). c.burst) m.controllers.1 ∙ waits.at.burst;
-    };
-    running = ap (λ (c : ControllerState). c.phase) m.controllers.1;
-    mix = ready.mix;
-    quiet = record { commands = quiet_there s new_to.controller ready waits m.controllers.1; results = ready.quiet.results };
-    stood = record ready.stood { media = media_of new_to.namespace };
-    stands = record { lanes = lanes_there waits m ready.stood.lanes ready.stands.lanes; media = refl; words = ready.stands.words };
-  }
+  ready_there waits m = ready_at s ready (record {
+    namespace = same_namespace waits.at.namespace m.crosses.to_shelves;
+    windows = subst (HaveWindows s.script) (sym m.to_memory) ready.place.windows;
+    pairs = pairs_there s new_to.controller ready waits m.controllers.1;
+    burst = ap (λ (c : ControllerState). c.burst) m.controllers.1 ∙ waits.at.burst;
+  }) (ap (λ (c : ControllerState). c.phase) m.controllers.1) (quiet_there s new_to.controller ready waits m.controllers.1) (lanes_there waits m ready.stood.lanes ready.stands.lanes)
 
   -- or here, where the guests stayed
   lanes_here : Stays state moves s.script (both at to) (both new_at new_to) → (lanes : List Lane) → StandsFor s.script s.runs at.controller at.windows lanes → StandsFor s.script s.runs new_at.controller new_at.windows lanes
@@ -264,21 +221,13 @@ module _ {M I : Type 0} {state : M → MediumState I} {moves : I → Step → Bo
   pub ready_here : Stays state moves s.script (both at to) (both new_at new_to) → IsReady s.script (machine_of s new_at)
   ready_here m =
       let pairs : new_at.controller.pairs ≡ at.controller.pairs = ap (λ (c : ControllerState). c.pairs) m.controllers.0 in
-      record {
-        script = ready.script;
-        runs = ready.runs;
-        place = record {
-          namespace = same_namespace ready.place.namespace m.crosses.from_shelves;
-          windows = subst (HaveWindows s.script) (sym m.crosses.from_memory) ready.place.windows;
-          pairs = ap length pairs ∙ ready.place.pairs;
-          burst = ap (λ (c : ControllerState). c.burst) m.controllers.0 ∙ ready.place.burst;
-        };
-        running = ap (λ (c : ControllerState). c.phase) m.controllers.0;
-        mix = ready.mix;
-        quiet = record { commands = λ k low high. ap (λ (ps : List PairState). (slice_index_or ps (k - 1) no_pair).commands) pairs ∙ ready.quiet.commands k low high; results = ready.quiet.results };
-        stood = record ready.stood { media = media_of new_at.namespace };
-        stands = record { lanes = lanes_here m ready.stood.lanes ready.stands.lanes; media = refl; words = ready.stands.words };
-      }
+      ready_at s ready (record {
+        namespace = same_namespace ready.place.namespace m.crosses.from_shelves;
+        windows = subst (HaveWindows s.script) (sym m.crosses.from_memory) ready.place.windows;
+        pairs = ap length pairs ∙ ready.place.pairs;
+        burst = ap (λ (c : ControllerState). c.burst) m.controllers.0 ∙ ready.place.burst;
+      }) (ap (λ (c : ControllerState). c.phase) m.controllers.0) (λ k low high. ap (λ (ps : List PairState). (slice_index_or ps (k - 1) no_pair).commands) pairs ∙ ready.quiet.commands k low high)
+      (lanes_here m ready.stood.lanes ready.stands.lanes)
 
   -- the run goes on at the other side
   goes_resume : {T E : Type 0} {out sent : SinkState} {result : Result T E} (manager : ManagerState) → s.phase ≡ Suspended → IsWaiting s.script to → Moves state moves s.script (both at to) (both new_at new_to) →
@@ -360,51 +309,17 @@ module _ {M I : Type 0} {state : M → MediumState I} {moves : I → Step → Bo
 -- What was said of a session and two places, said of the source and the destination.
 
 pub on_source : {M I : Type 0} {state : M → MediumState I} {moves : I → Step → Bool → I → Type 0} {old new : SessionState} {from to new_from new_to : PlaceState M} {out sent : SinkState} {failed : Bool} → new.side ≡ Source →
-    Goes state moves (sides old from to out) failed (sides new new_from new_to sent) → Goes state moves (sides old from to out) failed (by_side new new_from new_to sent)
-on_source {M} {state = state} {moves} {old} {new} {from} {to} {new_from} {new_to} {out} {sent} {failed} is goes =
-    subst (λ (side : Side). Goes state moves (sides old from to out) failed (at_side side (sides new new_from new_to sent) (sides new new_to new_from sent))) (sym is) goes
+    Goes state moves (sides old from to out) failed (sides new new_from new_to sent) ↔ Goes state moves (sides old from to out) failed (by_side new new_from new_to sent)
+on_source {M} {state = state} {moves} {old} {new} {from} {to} {new_from} {new_to} {out} {sent} {failed} is =
+    let same = ap (λ (side : Side). Goes state moves (sides old from to out) failed (at_side side (sides new new_from new_to sent) (sides new new_to new_from sent))) is in
+    (subst (λ (X : Type 0). X) (sym same), subst (λ (X : Type 0). X) same)
 
 pub on_destination : {M I : Type 0} {state : M → MediumState I} {moves : I → Step → Bool → I → Type 0} {old new : SessionState} {from to new_from new_to : PlaceState M} {out sent : SinkState} {failed : Bool} → new.side ≡ Destination →
-    Goes state moves (sides old from to out) failed (sides new new_to new_from sent) → Goes state moves (sides old from to out) failed (by_side new new_from new_to sent)
-on_destination {M} {state = state} {moves} {old} {new} {from} {to} {new_from} {new_to} {out} {sent} {failed} is goes =
-    subst (λ (side : Side). Goes state moves (sides old from to out) failed (at_side side (sides new new_from new_to sent) (sides new new_to new_from sent))) (sym is) goes
-
--- and back
-pub as_source : {M I : Type 0} {state : M → MediumState I} {moves : I → Step → Bool → I → Type 0} {old new : SessionState} {from to new_from new_to : PlaceState M} {out sent : SinkState} {failed : Bool} → new.side ≡ Source →
-    Goes state moves (sides old from to out) failed (by_side new new_from new_to sent) → Goes state moves (sides old from to out) failed (sides new new_from new_to sent)
-as_source {M} {state = state} {moves} {old} {new} {from} {to} {new_from} {new_to} {out} {sent} {failed} is goes =
-    subst (λ (side : Side). Goes state moves (sides old from to out) failed (at_side side (sides new new_from new_to sent) (sides new new_to new_from sent))) is goes
-
-pub as_destination : {M I : Type 0} {state : M → MediumState I} {moves : I → Step → Bool → I → Type 0} {old new : SessionState} {from to new_from new_to : PlaceState M} {out sent : SinkState} {failed : Bool} → new.side ≡ Destination →
-    Goes state moves (sides old from to out) failed (by_side new new_from new_to sent) → Goes state moves (sides old from to out) failed (sides new new_to new_from sent)
-as_destination {M} {state = state} {moves} {old} {new} {from} {to} {new_from} {new_to} {out} {sent} {failed} is goes =
-    subst (λ (side : Side). Goes state moves (sides old from to out) failed (at_side side (sides new new_from new_to sent) (sides new new_to new_from sent))) is goes
+    Goes state moves (sides old from to out) failed (sides new new_to new_from sent) ↔ Goes state moves (sides old from to out) failed (by_side new new_from new_to sent)
+on_destination {M} {state = state} {moves} {old} {new} {from} {to} {new_from} {new_to} {out} {sent} {failed} is =
+    let same = ap (λ (side : Side). Goes state moves (sides old from to out) failed (at_side side (sides new new_from new_to sent) (sides new new_to new_from sent))) is in
+    (subst (λ (X : Type 0). X) (sym same), subst (λ (X : Type 0). X) same)
 
 pub if_ok : {T E : Type 0} {P Q : T → Type 0} (result : Result T E) → ((x : T) → P x → Q x) → IfOk result P → IfOk result Q
 if_ok (Ok x) f p = f x p
 if_ok (Err e) f p = tt
-
--- How a run ends.
-
--- a script that asks for no migration
-pub none_asked : (asked : Option ℕ) (side : Side) → turns_ahead asked ≡ None → IsEnding asked side Done
-none_asked None side is = tt
-none_asked (Some turn) side is = absurd cc
-
--- one that asks for one, after which the guests are there, or here
-pub asked_there : (asked : Option ℕ) → (turns_ahead asked ≡ None → ⊥) → IsEnding asked Destination Done
-asked_there None some = absurd (some refl)
-asked_there (Some turn) some = tt
-
-pub asked_here : (asked : Option ℕ) → (turns_ahead asked ≡ None → ⊥) → IsEnding asked Source GaveUp
-asked_here None some = absurd (some refl)
-asked_here (Some turn) some = tt
-
--- where all is done and no migration is due, none is asked for any more
-pub none_ahead : (ahead : Option ℕ) {P : Type 0} → P → (IsDueAfter ahead P → ⊥) → ahead ≡ None
-none_ahead None done not = refl
-none_ahead (Some n) done not = absurd (not (inr done))
-
-pub some_ahead : (ahead : Option ℕ) (P : Type 0) → IsDueAfter ahead P → ahead ≡ None → ⊥
-some_ahead None P due is = due
-some_ahead (Some n) P due is = absurd cc

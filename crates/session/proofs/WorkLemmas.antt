@@ -1,5 +1,5 @@
-use Rattle.std.proofs.Common.{◌≡◌, ℕ, ◌+◌, ◌-◌, ◌*◌, ◌/◌, ◌%◌, ◌<◌, ◌≤◌, Bool, List, [], ◌∷◌, ◌++◌, length, map, sum, slice_index_or, slice_set, vec_capacity, refl, sym, ap, subst, ◌∙◌, arith}
-use Rattle.std.proofs.lemmas.List.{length-map, map-append, get_or-map, get_or_default, ext_get_or, length-drop}
+use Rattle.std.proofs.Common.{◌≡◌, ℕ, ◌+◌, ◌-◌, ◌*◌, ◌/◌, ◌%◌, ◌<◌, ◌≤◌, Bool, List, [], ◌∷◌, ◌++◌, length, map, sum, slice_index_or, slice_set, vec_capacity, refl, sym, ap, subst, ◌∙◌, arith, ⊎_elim, All}
+use Rattle.std.proofs.lemmas.List.{length-map, map-append, get_or-map, get_or_default, ext_get_or, length-drop, length-append, length-set, get_or-set_same, get_or-set_other}
 use Rattle.std.proofs.lemmas.List.Elements.{All-from_get_or}
 use Rattle.nvm_model.specs.declared.command.Command.{Command}
 use Rattle.nvm_model.specs.declared.command.Outcome.{Outcome}
@@ -14,41 +14,37 @@ use Rattle.nvm_model.specs.Piece.{pieces_left}
 use Rattle.nvm_model.specs.Trace.{IsPieceDone, piece_calls}
 use Rattle.nvm_model.specs.Turn.{left_in}
 use Rattle.nvm_model.specs.World.{Lane, new_lane, set_of}
-use Rattle.nvm_model.proofs.ChainLemmas.{chain_one}
+use Rattle.nvm_model.proofs.ChainLemmas.{chain_one, chain_more}
 use Rattle.nvm_ring.specs.Queues.{HasGuestEnds}
 use Rattle.nvm_blocks.specs.Namespace.{IsForNamespace, media_of}
 use Rattle.nvm_blocks.specs.Work.{IsSameButData}
 use Rattle.guest_ram.specs.Window.{WindowState, data_pages}
 use Rattle.hall.specs.Plan.{PlanState, pieces_of}
 use Rattle.lanes.specs.Guest.{GuestState}
-use Rattle.controller.specs.Pair.{ControllerState, PairState, lane_pieces, outcomes_of, pair_of, worked, IsSameButPair}
+use Rattle.controller.specs.Pair.{ControllerState, PairState, lane_pieces, outcomes_of, pair_of, worked, IsSameButPair, IsPlanned}
 use Rattle.turns.proofs.NextPieceLaws.{lanes_finished}
-use Rattle.nvm_model.specs.Run.{Here, IsPiece, MayBeNext, NoneLeft}
+use Rattle.nvm_model.specs.Run.{Here, IsPiece, MayBeNext, NoneLeft, piece_line}
 use Rattle.session.specs.declared.lane_run.LaneRun.{LaneRun}
 use Rattle.session.specs.declared.lane_script.LaneScript.{LaneScript}
-use Rattle.session.specs.Lanes.{ArePlanned, IsLaneOf, IsPlanned, IsRunOf, Stands, window_of}
+use Rattle.session.specs.Lanes.{ArePlanned, IsLaneOf, IsRunOf, Stands, window_of, HasDrawn}
 use Rattle.session.specs.Phases.{AreDone, DoesPieces, HasPieceLeft, HasPlan, StandsNext, StandsOver}
 use Rattle.nvm_model.specs.Told.{serial}
-use Rattle.session.specs.Place.{PlaceState, StandsFor}
+use Rattle.session.specs.Place.{PlaceState, StandsFor, StandsOn, machine}
 use Rattle.session.specs.Seats.{DoesPieceAt, IsSameButWindow}
 use Rattle.session.specs.Work.{AreLeft, HasResult, HasResultAt, MayPost}
 use Rattle.session.proofs.ShelvesLemmas.{same_namespace}
-use Rattle.controller.proofs.NextLemmas.{IsNext, is_next, lane_few, lane_length, left_worked, next_fits, order_stays, window_stays, worked_length}
+use Rattle.controller.proofs.NextLemmas.{IsNext, lane_length, left_worked, next_fits, order_stays, window_stays, worked_length}
 use Rattle.controller.specs.Told.{called, piece_event}
 use Rattle.controller.proofs.DoneLemmas.{piece_does}
-use Rattle.mig_base.proofs.ListLemmas.{element_at}
+use Rattle.mig_base.proofs.ListLemmas.{element_at, sum_few}
 use Rattle.session.proofs.AllLanesLemmas.{IsSameButLane, fit_more, stands_more}
 use Rattle.session.proofs.SeatLemmas.{other_windows}
 use Rattle.turns.specs.Parts.{Leads}
+use Rattle.std.proofs.lemmas.Bool.{cases_eq}
+use Rattle.session.specs.declared.order.Order.{Order}
+use Rattle.controller.proofs.PlannedLemmas.{planned_next, pieces_fit}
 
 -- A piece that is done: what it does to its lane, and to all lanes over their media.
-
--- the piece that follows so many that were done is the next one
-pub planned_next : {s : Script} {k : ℕ} {plan : PlanState} {pair : PairState} → IsPlanned s k plan pair → (os : List Outcome) (d : Piece) → length os < length (pieces_of plan k) →
-    IsNext k s.head.shelf s.head.blocks (set_of s.head k).pages pair.commands os (slice_index_or (pieces_of plan k) (length os) d)
-planned_next {s} {k} {plan} {pair} is os d few =
-    subst (λ (ps : List Piece). IsNext k s.head.shelf s.head.blocks (set_of s.head k).pages pair.commands os (slice_index_or ps (length os) d)) (sym is.pieces)
-    (is_next k s.head.shelf s.head.blocks (set_of s.head k).pages pair.commands os d is.checked (omega (arith, few, ap length is.pieces)))
 
 -- the lane that a run stands for after its next piece
 abbrev pub lane_after : Script → PairState → LaneRun → PieceResult → WindowState → Lane → Lane
@@ -141,12 +137,6 @@ next_at {s = s} {runs} {plan} {place} {piece} at d has is piece_is =
     let count : length os ≡ length (slice_index_or runs at d).results.items = length-map (slice_index_or runs at d).results.items (λ (r : PieceResult). r.outcome) in
     subst (λ (p : Piece). IsNext (at + 1) s.head.shelf s.head.blocks (set_of s.head (at + 1)).pages (pair_of place.controller (at + 1)).commands os p)
     (ap (λ (n : ℕ). slice_index_or (pieces_of plan (at + 1)) n piece) count ∙ sym (piece_is d piece)) (planned_next (has.planned (at + 1) (omega arith) (omega (arith, is.there))) os piece (omega (arith, count, is.left d)))
-
--- a lane has at most 64 pieces for each command that may be fetched
-pub pieces_fit : {s : Script} {k : ℕ} {plan : PlanState} {pair : PairState} → 1 ≤ s.head.shelf → IsPlanned s k plan pair → length (pieces_of plan k) ≤ 64 * s.head.burst
-pieces_fit {s} {k} {plan} {pair} large is =
-    let all : length (pieces_of plan k) ≡ length (lane_pieces k s.head.shelf pair.commands) = ap length is.pieces in
-    omega (arith, all, is.few, lane_few k s.head.shelf s.head.blocks (set_of s.head k).pages pair.commands large is.checked)
 
 -- it is a piece of that lane, for the place's namespace and the lane's window
 pub piece_fits : {M : Type 0} {s : Script} {runs : List LaneRun} {plan : PlanState} {place : PlaceState M} {piece : Piece} (at : ℕ) → HasPlan s runs plan place → HasPieceLeft s at runs plan →
@@ -260,3 +250,73 @@ piece_leads {M} {I} {state} {moves} {s} {runs} {new_runs} {plan} {old} {new} {pi
       stands = record { over = record { lanes = stands; media = refl }; one = refl };
       events_are = refl;
     }
+
+-- Pieces in their order.
+
+-- pieces, and then others
+pub does_more : {M I : Type 0} {state : M → MediumState I} {moves : I → Step → Bool → I → Type 0} {s : Script} {x : Here M} (y z : Here M) (first second : List Line) → DoesPieces state moves s x first y → DoesPieces state moves s y second z → DoesPieces state moves s x (first ++ second) z
+does_more {state = state} {moves} {s} {x} y z first second a b = record {
+  pieces = a.pieces ++ b.pieces;
+  working = chain_more (IsPiece state moves (serial s)) x a.pieces y b.pieces z a.working b.working;
+  lines_are = ap (λ (l : List Line). l ++ second) a.lines_are ∙ ap (λ (l : List Line). map piece_line a.pieces ++ l) b.lines_are ∙ sym (map-append piece_line a.pieces b.pieces);
+}
+
+-- one piece that was drawn
+pub works_on : {M I : Type 0} {state : M → MediumState I} {moves : I → Step → Bool → I → Type 0} {s : Script} {runs : List LaneRun} {order : Order} {place : PlaceState M} {h : Here M} {a b : List Line} →
+    HasDrawn (h.drawn + 1) order → Leads (DoesPieces state moves s) (StandsNext s runs place h.drawn) h a b → Leads (DoesPieces state moves s) (StandsOn s (machine runs order place)) h a b
+works_on {order = order} drawn x = record {
+  new = x.new;
+  added = x.added;
+  part = x.part;
+  stands = record { lanes = x.stands.over.lanes; media = x.stands.over.media; words = subst (λ (m : ℕ). HasDrawn m order) (sym x.stands.one) drawn };
+  events_are = x.events_are;
+}
+
+-- How many are left.
+
+-- one piece fewer of the lane at a place
+pub left_less : {s : Script} {runs new : List LaneRun} {plan : PlanState} {left : List ℕ} (at : ℕ) (result : PieceResult) → at < s.head.lanes → 1 ≤ slice_index_or left at 0 → HasResultAt at result runs new → AreLeft s runs plan left → AreLeft s new plan (slice_set left at (slice_index_or left at 0 - 1))
+left_less {s} {runs} {new} {plan} {left} at result low some has is = record {
+  count = length-set left at (slice_index_or left at 0 - 1) ∙ is.count;
+  each = λ k d first last.
+      let before = is.each k d first last in
+      ⊎_elim (λ here.
+      let own : slice_index_or (slice_set left at (slice_index_or left at 0 - 1)) (k - 1) 0 ≡ slice_index_or left (k - 1) 0 - 1 =
+      subst (λ (i : ℕ). slice_index_or (slice_set left i (slice_index_or left i 0 - 1)) (k - 1) 0 ≡ slice_index_or left (k - 1) 0 - 1) here
+      (get_or-set_same left (k - 1) (slice_index_or left (k - 1) 0 - 1) 0 (omega (arith, here, low, is.count))) in
+      let done = one_more (slice_index_or runs at d) (slice_index_or new at d) result (has.here d) in
+      let more = subst (λ (i : ℕ). length (slice_index_or new i d).results.items ≡ length (slice_index_or runs i d).results.items + 1) (sym here) done in
+      let there : 1 ≤ slice_index_or left (k - 1) 0 = subst (λ (i : ℕ). 1 ≤ slice_index_or left i 0) (sym here) some in
+      omega (arith, before, own, more, there))
+      (λ other.
+      let own : slice_index_or (slice_set left at (slice_index_or left at 0 - 1)) (k - 1) 0 ≡ slice_index_or left (k - 1) 0 = get_or-set_other left at (k - 1) (slice_index_or left at 0 - 1) 0 other in
+      let same = ap (λ (run : LaneRun). length run.results.items) (has.same.others (k - 1) d other) in
+      omega (arith, before, own, same))
+      (cases_eq (k - 1) at);
+}
+  where
+    one_more : (run after : LaneRun) (result : PieceResult) → HasResult run result after → length after.results.items ≡ length run.results.items + 1
+    one_more run after result one = ap length one.results ∙ length-append run.results.items (result ∷ [])
+
+-- what is left of the lane at a place
+pub left_at : {s : Script} {runs : List LaneRun} {plan : PlanState} {left : List ℕ} → AreLeft s runs plan left → (at : ℕ) (d : LaneRun) → at < s.head.lanes →
+    slice_index_or left at 0 + length (slice_index_or runs at d).results.items ≡ length (pieces_of plan (at + 1))
+left_at {s} {runs} {plan} {left} is at d low =
+    let here : at + 1 - 1 ≡ at = omega arith in
+    subst (λ (i : ℕ). slice_index_or left i 0 + length (slice_index_or runs i d).results.items ≡ length (pieces_of plan (at + 1))) here (is.each (at + 1) d (omega arith) (omega (arith, low)))
+
+-- a turn has at most 4,096 pieces of each lane
+pub left_few : {M : Type 0} {s : Script} {runs : List LaneRun} {plan : PlanState} {place : PlaceState M} {left : List ℕ} → HasPlan s runs plan place → AreLeft s runs plan left → sum left ≤ 4096 * s.head.lanes
+left_few {s = s} {runs} {plan} {left = left} has are =
+    let each : All (λ (n : ℕ). n ≤ 4096) left = All-from_get_or (λ (n : ℕ). n ≤ 4096) left 0 (λ i low.
+    let there : i < s.head.lanes = omega (arith, low, are.count) in
+    let d = element_at runs i (omega (arith, there, has.fit.own.count)) in
+    omega (arith, left_at are i d there, pieces_fit has.fit.head.shelf.0 (has.planned (i + 1) (omega arith) (omega (arith, there))), has.fit.head.burst.1)) in
+    omega (arith, sum_few 4096 left each, are.count)
+
+-- where none is left all were done
+pub all_done : {s : Script} {runs : List LaneRun} {plan : PlanState} {left : List ℕ} → AreLeft s runs plan left → All (λ (n : ℕ). n ≡ 0) left → (k : ℕ) (d : LaneRun) → 1 ≤ k → k ≤ s.head.lanes →
+    length (slice_index_or runs (k - 1) d).results.items ≡ length (pieces_of plan k)
+all_done {left = left} are none k d low high =
+    let zero_there = none (k - 1) 0 (omega (arith, low, high, are.count)) in
+    omega (arith, are.each k d low high, zero_there)

@@ -1,12 +1,12 @@
-use Rattle.std.specs.Prelude.{◌≡◌, ◌⊎◌, ℕ, ◌+◌, ◌-◌, ◌*◌, ◌≤◌, List, [], All, length, map, true, slice_index_or, vec_capacity}
+use Rattle.std.specs.Prelude.{◌≡◌, ◌⊎◌, ℕ, ◌+◌, ◌-◌, ◌*◌, ◌≤◌, List, [], All, length, true, slice_index_or, vec_capacity}
 use Rattle.nvm_model.specs.declared.script.Script.{Script}
 use Rattle.nvm_ring.specs.Queues.{HasEnds, HasGuestEnds, HasWindow, IsOrdered}
 use Rattle.nvm_model.specs.ScriptText.{IsSet, IsAct}
 use Rattle.nvm_model.specs.Turn.{word_state}
 use Rattle.nvm_model.specs.World.{Lane, set_of, acts_of}
 use Rattle.guest_ram.specs.Window.{WindowState, no_window}
-use Rattle.hall.specs.Plan.{PlanState, pieces_of}
-use Rattle.controller.specs.Pair.{ControllerState, IsFetched, PairState, lane_pieces, outcomes_of, pair_of, told_fetch, worked}
+use Rattle.hall.specs.Plan.{PlanState}
+use Rattle.controller.specs.Pair.{ControllerState, PairState, outcomes_of, pair_of, worked, IsPlanned}
 use Rattle.session.specs.declared.lane_run.LaneRun.{LaneRun}
 use Rattle.session.specs.declared.lane_script.LaneScript.{LaneScript}
 use Rattle.session.specs.declared.order.Order.{Order}
@@ -49,13 +49,6 @@ pub record IsNewRun (s : Script) (k : ℕ) (run : LaneRun) : Type 0 where
   pub acts : run.acts_done ≡ 0
   pub results : run.results.items ≡ []
   pub guest : run.guest ≡ record { lane = k; sq = record { size = (set_of s.head k).sq; head = 0; tail = 0 }; cq = record { size = (set_of s.head k).cq; head = 0; phase = true }; waiting = 0 }
-
--- the commands of lane k and their pieces stand in the plan
-pub record IsPlanned (s : Script) (k : ℕ) (plan : PlanState) (pair : PairState) : Type 0 where
-  pub pieces : pieces_of plan k ≡ lane_pieces k s.head.shelf pair.commands
-  pub told : pair.fetched ≡ map (told_fetch s.head.shelf) pair.commands
-  pub checked : All (IsFetched s.head.blocks (set_of s.head k).pages) pair.commands
-  pub few : length pair.commands ≤ s.head.burst
 
 abbrev pub ArePlanned : Script → PlanState → ControllerState → Type 0
 ArePlanned s plan controller = (k : ℕ) → 1 ≤ k → k ≤ s.head.lanes → IsPlanned s k plan (pair_of controller k)

@@ -9,10 +9,9 @@ use Rattle.nvm_model.specs.ScriptText.{IsHead}
 use Rattle.nvm_blocks.specs.Namespace.{media_of}
 use Rattle.hall.specs.Plan.{PlanState, pieces_of}
 use Rattle.controller.specs.declared.controller.Phase.TheVariants.{Running}
-use Rattle.controller.specs.Pair.{IsSameButPieces, PairState}
 use Rattle.nvm_model.specs.Run.{Here, IsPiece, PieceCalled, piece_line}
 use Rattle.session.specs.declared.lane_run.LaneRun.{LaneRun}
-use Rattle.session.specs.Lanes.{ArePlanned, IsPlanned}
+use Rattle.session.specs.Lanes.{ArePlanned}
 use Rattle.nvm_model.specs.Told.{serial}
 use Rattle.session.specs.Place.{AreQuiet, AreRunsOf, IsPlaceOf, PlaceState, StandsFor}
 
@@ -34,11 +33,6 @@ pub record FitPlan (s : Script) (plan : PlanState) : Type 0 where
 pub record HasRoom (s : Script) (plan : PlanState) (events : Vec Line Global) : Type 0 where
   pub fits : FitPlan s plan
   pub most : 4608 * s.head.lanes ≤ vec_capacity events
-
--- the pieces of lane k's fetched commands were put into a plan where it had none
-pub record PlansLane (s : Script) (k : ℕ) (old new : PlanState) (pair : PairState) : Type 0 where
-  pub planned : IsPlanned s k new pair
-  pub same : IsSameButPieces k old new
 
 -- a plan has the pieces of all fetched commands
 pub record HasPlan {M : Type 0} (s : Script) (runs : List LaneRun) (plan : PlanState) (place : PlaceState M) : Type 0 where

@@ -1,4 +1,4 @@
-use Rattle.std.specs.Prelude.{◌≡◌, ◌⊎◌, ℕ, ◌+◌, ◌-◌, ◌≤◌, Bool, true, false, List, Option, Some, None, slice_index_or}
+use Rattle.std.specs.Prelude.{◌≡◌, ℕ, ◌-◌, ◌≤◌, Bool, true, false, List, Option, Some, None, slice_index_or}
 use Rattle.nvm_model.specs.declared.script.Head.{Head}
 use Rattle.nvm_model.specs.declared.script.Script.{Script}
 use Rattle.nvm_model.specs.declared.trace.Step.{Step}
@@ -9,6 +9,7 @@ use Rattle.nvm_model.specs.declared.run.RunPhase.TheVariants.{New, Running, Over
 use Rattle.nvm_model.specs.declared.run.Side.{Side}
 use Rattle.nvm_model.specs.declared.run.Side.TheVariants.{Source, Destination}
 use Rattle.nvm_model.specs.Run.{SinkState, Snapshot, Went, here, memory_of}
+use Rattle.turns.specs.Ahead.{IsAhead, IsDueAfter, turns_ahead}
 use Rattle.session.specs.declared.ending.Ending.{Ending}
 use Rattle.session.specs.declared.ending.Ending.TheVariants.{Done, GaveUp}
 use Rattle.session.specs.declared.lane_run.LaneRun.{LaneRun}
@@ -53,11 +54,6 @@ sink taken faults = record { taken = taken; faults = faults }
 abbrev pub machine_of : {M : Type 0} → SessionState → PlaceState M → Machine M
 machine_of session place = record { runs = session.runs; order = session.order; place = place }
 
--- so many turns come before a migration that is asked for and wasn't begun, where so many were done
-abbrev pub IsAhead : Bool → Option ℕ → ℕ → Option ℕ → Type 0
-IsAhead tried migrate turns (Some n) = (tried ≡ false) × (migrate ≡ Some (turns + n + 1))
-IsAhead tried migrate turns None = tried ≡ false → migrate ≡ None
-
 -- they stand for a run between two of its stages
 pub record StandsAs {M : Type 0} (m : Sides M) (t : Snapshot M) : Type 0 where
   pub task : t.task ≡ serial m.session.script
@@ -80,11 +76,6 @@ pub record GoesTo {M I : Type 0} (state : M → MediumState I) (moves : I → St
 abbrev pub Goes : {M I : Type 0} → (M → MediumState I) → (I → Step → Bool → I → Type 0) → Sides M → Bool → Sides M → Type 0
 Goes {M} state moves old failed new = (t : Snapshot M) → StandsAs old t → GoesTo state moves t failed new
 
--- a migration is due: no turn comes before it, or all is done
-abbrev pub IsDueAfter : Option ℕ → Type 0 → Type 0
-IsDueAfter (Some n) done = (n ≡ 0) ⊎ done
-IsDueAfter None done = ⊥
-
 abbrev pub IsMoveDue : SessionState → Type 0
 IsMoveDue s = IsDueAfter s.ahead (AreAllDone s.script s.runs)
 
@@ -106,11 +97,6 @@ pub record IsOnward {M : Type 0} (old : SessionState) (new : SessionState) (at :
   pub ahead : (old.ahead ≡ None → new.ahead ≡ None) × (new.ahead ≡ None → old.ahead ≡ None)
   pub manager : new.manager ≡ old.manager
   pub running : IsRunning new at
-
--- a turn less, where there is one
-abbrev pub less_one : Option ℕ → Option ℕ
-less_one (Some n) = Some (n - 1)
-less_one None = None
 
 -- turns stop where a migration is due, or at the end
 abbrev pub IsStop : Bool → SessionState → Type 0
@@ -167,11 +153,6 @@ pub record HasEnded (ending : Ending) (s : SessionState) : Type 0 where
   pub ended : IsEnding s.script.head.migrate s.side ending
 
 -- What a session is as it is made.
-
--- so many turns come before a migration that is asked for before the turn with a number
-abbrev pub turns_ahead : Option ℕ → Option ℕ
-turns_ahead (Some turn) = Some (turn - 1)
-turns_ahead None = None
 
 pub record IsNewSession (s : Script) (session : SessionState) : Type 0 where
   pub script : session.script ≡ s

@@ -29,12 +29,7 @@ pub(crate) fn cut_over<M: Medium, D: Dest>(
         (port_of M.state names at.old (D.state to.old)) (port_of M.state names at.new (D.state to.new)) }
 {
     let mut port = Move::between(at, to);
-    let brought = bring(manager, &mut port);
-    let (at, to) = port.into_sides();
-    // No effect at run time. The proof reads what the two sides hold from this use of them.
-    let _ = &*at;
-    let _ = &*to;
-    brought
+    bring(manager, &mut port)
 }
 
 /// The same over a port.

@@ -1,5 +1,6 @@
 // The pieces of a turn on one thread.
-ghost use Rattle.std.specs.Prelude.{◌≡◌, ◌+◌, ◌*◌, ◌/◌, ◌<◌, ◌≤◌, [], All, length, slice_index_or, vec_len, vec_capacity};
+ghost use Rattle.std.specs.Prelude.{◌≡◌, ◌+◌, ◌*◌, ◌/◌, ◌<◌, ◌≤◌, [], All};
+ghost use Rattle.std.specs.Prelude.{length, slice_index_or, vec_len, vec_capacity};
 ghost use Rattle.nvm_model.specs.declared.line.Line.TheVariants as line;
 ghost use Rattle.nvm_model.specs.declared.piece.Piece.{Piece as ThePiece};
 ghost use Rattle.nvm_model.specs.ScriptText.{IsHead};
@@ -65,7 +66,7 @@ pub(crate) fn do_pieces<M: Medium>(
     count_left(script, runs, plan, left);
     let mut ticket = 0;
     'pieces: while let Some(at) = order.pick(left) {
-        do_piece(script, runs, at, ticket, plan, events, place);
+        do_piece(script, runs, Due { at, ticket }, plan, events, place);
         left[at] -= 1;
         ticket += 1;
     }
@@ -83,36 +84,42 @@ fn count_left(script: &Script, runs: &Vec<LaneRun>, plan: &Plan, left: &mut [usi
     }
 }
 
-/// Does the next piece of the lane at a place, which has one left, and has room on its shelf.
+/// Whose piece is done next, by the place of its lane, and the ticket that it draws.
+#[derive(Clone, Copy)]
+struct Due {
+    at: usize,
+    ticket: u64,
+}
+
+/// Does the next piece of the lane that is due, which has one left, and has room on its shelf.
 fn do_piece<M: Medium>(
     script: &Script,
     runs: &mut Vec<LaneRun>,
-    at: usize,
-    ticket: u64,
+    due: Due,
     plan: &Plan,
     events: &mut Vec<Line>,
     place: &mut Place<M>,
 )
     requires has { HasPlan script.now runs.old.items plan.now place.old }
-    requires left { HasPieceLeft script.now at runs.old.items plan.now }
+    requires left { HasPieceLeft script.now due.at runs.old.items plan.now }
     requires entry { (d : LaneRun) (none : ThePiece) → HasRoom place.old.namespace
-        ((due_piece runs.old.items plan.now at d none).span.first / place.old.namespace.shelf) }
+        ((due_piece runs.old.items plan.now due.at d none).span.first / place.old.namespace.shelf) }
     requires room { vec_len events.old < vec_capacity events.old }
     ensures works { (h : Here M)
         → StandsOver script.now runs.old.items place.old h
-        → MayBeNext (serial script.now) h.drawn h.lanes (at + 1)
+        → MayBeNext (serial script.now) h.drawn h.lanes (due.at + 1)
         → Leads (DoesPieces M.state M.moves script.now) (StandsNext script.now runs.new.items place.new h.drawn)
         h events.old.items events.new.items }
-    ensures done { HasDone at ticket plan.now runs.old.items runs.new.items
+    ensures done { HasDone due.at due.ticket plan.now runs.old.items runs.new.items
         place.old.namespace place.new.namespace }
     ensures has { HasPlan script.now runs.new.items plan.now place.new }
     ensures more { (vec_len events.new ≡ vec_len events.old + 1)
         × (vec_capacity events.new ≡ vec_capacity events.old) }
 {
-    let (piece, index) = next_piece(script, runs, at, plan);
-    let done = place.piece(&piece, index, ticket);
+    let (piece, index) = next_piece(script, runs, due.at, plan);
+    let done = place.piece(&piece, index, due.ticket);
     events.push_reserved(piece_line(&piece, &done));
-    push_result(runs, at, done);
+    push_result(runs, due.at, done);
 }
 
 /// The next piece of the lane at a place, which has one left, and its number among the lane's.

@@ -3,11 +3,11 @@ ghost use Rattle.nvm_model.specs.Turn.{Plans, PostsAll};
 ghost use Rattle.nvm_model.specs.World.{Lane};
 ghost use Rattle.nvm_blocks.specs.Namespace.{Enters, block_count, entries_at};
 ghost use Rattle.hall.specs.Plan.{pieces_of};
-ghost use Rattle.controller.specs.Pair.{pair_of};
+ghost use Rattle.controller.specs.Pair.{PlansLane, pair_of};
 ghost use Rattle.turns.specs.Parts.{Leads};
 ghost use Rattle.session.specs.LaneParts.{HasMore};
 ghost use Rattle.session.specs.Lanes.{IsRunOf};
-ghost use Rattle.session.specs.Phases.{FitPlan, PlansLane};
+ghost use Rattle.session.specs.Phases.{FitPlan};
 ghost use Rattle.session.specs.Seats.{DoesPieceAt, DropsEntries, HasSeat, IsForPlace, IsSameButSeat, MayPlan, Sits};
 ghost use Rattle.session.specs.Work.{MayPost};
 

@@ -7,12 +7,12 @@ ghost use Rattle.nvm_model.specs.ScriptText.{IsAct};
 ghost use Rattle.nvm_model.specs.Turn.{ActsOn, InLanes, Plans, ReapsAll};
 ghost use Rattle.nvm_model.specs.World.{Lane, set_of};
 ghost use Rattle.hall.specs.Plan.{pieces_of};
-ghost use Rattle.controller.specs.Pair.{IsSameButPair, fetch_line, pair_of};
+ghost use Rattle.controller.specs.Pair.{IsSameButPair, PlansLane, fetch_line, pair_of};
 ghost use Rattle.turns.specs.Parts.{ActsSome, Leads, ReapsSome};
 ghost use Rattle.session.specs.LaneParts.{DidAct, HasMore, HasOne, IsGuestStep, IsSeat};
 ghost use Rattle.session.specs.LaneParts.{MayFetch, StandBoth, StandsFree, seat_of};
 ghost use Rattle.session.specs.Lanes.{Stands};
-ghost use Rattle.session.specs.Phases.{AreUndone, FitPlan, HasPlan, MayPlanAll, PlansLane};
+ghost use Rattle.session.specs.Phases.{AreUndone, FitPlan, HasPlan, MayPlanAll};
 ghost use Rattle.session.specs.Place.{StandsFor};
 
 use crate::{LaneRun, Place};

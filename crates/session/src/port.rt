@@ -8,30 +8,22 @@ use mig_medium::Medium;
 
 /// The port between a place and the other side, for as long as a move takes.
 #[derive(Drop)]
-pub struct Move<'a, 'b, M: Medium, D: Dest> {
+pub struct Move<'a, M: Medium, D: Dest> {
     at: &'a mut Place<M>,
-    to: &'b mut D,
+    to: &'a mut D,
 }
 
-impl<'a, 'b, M: Medium, D: Dest> Move<'a, 'b, M, D> {
+impl<'a, M: Medium, D: Dest> Move<'a, M, D> {
     /// A port from a place to another side.
-    pub fn between(at: &'a mut Place<M>, to: &'b mut D) -> Move<'a, 'b, M, D>
+    pub fn between(at: &'a mut Place<M>, to: &'a mut D) -> Move<'a, M, D>
         ensures at { result.at ≡ at.entry }
         ensures to { result.to ≡ to.entry }
     {
         Move { at, to }
     }
-
-    /// The two sides again.
-    pub fn into_sides(self) -> (&'a mut Place<M>, &'b mut D)
-        ensures at { result.0 ≡ self.entry.at }
-        ensures to { result.1 ≡ self.entry.to }
-    {
-        (self.at, self.to)
-    }
 }
 
-impl<'a, 'b, M: Medium, D: Dest> WorkPort for Move<'a, 'b, M, D> {
+impl<'a, M: Medium, D: Dest> WorkPort for Move<'a, M, D> {
     ghost use Rattle.session.specs.Port.{Ends, moves_port, port_of};
 
     ghost Inside = { Ends M D.Inside };
@@ -52,7 +44,7 @@ impl<'a, 'b, M: Medium, D: Dest> WorkPort for Move<'a, 'b, M, D> {
     }
 }
 
-impl<'a, 'b, M: Medium, D: Dest> Port for Move<'a, 'b, M, D> {
+impl<'a, M: Medium, D: Dest> Port for Move<'a, M, D> {
     fn admin(&mut self, side: Side, cmd: &AdminCmd, bytes: &mut [u8]) -> AdminCpl {
         match side {
             Side::From => self.at.admin(cmd, bytes),

@@ -3,7 +3,8 @@ ghost use Rattle.nvm_model.specs.ScriptText.{IsHead, IsScript};
 ghost use Rattle.nvm_model.specs.World.{window_pages};
 ghost use Rattle.session.specs.declared.lane_run.LaneRun.{LaneRun};
 ghost use Rattle.session.specs.Lanes.{IsNewRun, IsRunOf};
-ghost use Rattle.session.specs.Sides.{IsDueAfter, IsNewSession, IsNext, move_set, turns_ahead};
+ghost use Rattle.turns.specs.Ahead.{IsDueAfter, turns_ahead};
+ghost use Rattle.session.specs.Sides.{IsNewSession, IsNext, move_set};
 
 use crate::lane_run::LaneRun;
 use crate::order::Order;

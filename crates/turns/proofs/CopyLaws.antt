@@ -10,9 +10,9 @@ use Rattle.nvm_model.specs.Chain.{Chain}
 use Rattle.nvm_model.specs.Medium.{At, IsAt, MediumState, marked, marks_at, told_in}
 use Rattle.nvm_model.specs.Piece.{block_at}
 use Rattle.nvm_model.proofs.MediaLemmas.{length_joined}
-use Rattle.nvm_model.specs.Run.{AllCopied, CopiesAll, Copy, CopyEnd, all_blocks, gets_of, left_calls, media_count, puts_of, taken_calls}
+use Rattle.nvm_model.specs.Run.{AllCopied, CopiesAll, Copy, CopyEnd, all_blocks, gets_of, left_calls, media_count, puts_of, taken_calls, Task}
 use Rattle.nvm_model.specs.Run.CopyEnd.{Copied, NotRead, NotWritten}
-use Rattle.nvm_model.specs.Told.{Tell}
+use Rattle.nvm_model.specs.Told.{Tell, serial}
 use Rattle.turns.proofs.MediaLaws.{the_copy}
 use Rattle.turns.proofs.PieceLaws.{Blocks, Flat, calls_told, place_is}
 
@@ -125,3 +125,7 @@ puts_told {M} state moves s copies from to left new x z all gets puts t u =
     let none : 0 + h.blocks ≡ h.blocks = omega arith in
     let same : put.0 ≡ x = same_blocks h.blocks x put.0 (told_length state h from x t) (bring.1 ∙ told_length state h to z u) (subst (λ (n : ℕ). take n put.0 ≡ take n x) none bring.0) in
     subst (λ (y : Blocks). Tell state h new y) same put.1
+
+-- calls of a move between media that are the same
+pub calls_along : {M : Type 0} {s : Script} {k : Task} {a b : List M} (R : List M → At → List M → Type 0) (x : List M) (calls : Script → List Copy → List At) (copies : List Copy) → k ≡ serial s → b ≡ a → Chain R a (calls s copies) x → Chain R b (calls k.script copies) x
+calls_along {M} {s} {k} {a} {b} R x calls copies task media c = subst (λ (j : Task). Chain R b (calls j.script copies) x) (sym task) (subst (λ (m : List M). Chain R m (calls s copies) x) (sym media) c)

@@ -1,3 +1,4 @@
+pub mod AheadLaws
 pub mod AskedLaws
 pub mod CommandLemmas
 pub mod FrameLemmas

@@ -11,7 +11,7 @@ use Rattle.nvm_model.specs.Chain.{Chain}
 use Rattle.nvm_model.specs.Medium.{MediumState}
 use Rattle.nvm_model.specs.Text.{line_text, text_of}
 use Rattle.nvm_model.proofs.ChainLemmas.{chain_keeps, chain_more, chain_one}
-use Rattle.nvm_model.specs.Run.{IsStage, IsWritten, Snapshot, Stage, Task, Went, lines_in, lines_of}
+use Rattle.nvm_model.specs.Run.{IsStage, IsWritten, Snapshot, Stage, Task, Went, lines_in, lines_of, SinkState}
 use Rattle.nvm_model.specs.Run.Stage.{Title, Turn, Begin, Resume, GiveUp, End}
 
 -- A run goes on, stage after stage.
@@ -104,3 +104,7 @@ went_more {M} {I} {state} {moves} {old} {mid} {new} {failed} a b =
       later = omega (arith, a.later, b.later);
       rose = λ e. omega (arith, a.later, b.rose e);
     }
+
+-- a text went out from where the run stood
+pub sent_from : {T E : Type 0} {text : List ℕ} {at out sent : SinkState} {result : Result T E} → at ≡ out → Writes text out.taken sent.taken out.faults sent.faults result → Writes text at.taken sent.taken at.faults sent.faults result
+sent_from {text = text} {sent = sent} {result = result} is w = subst (λ (o : SinkState). Writes text o.taken sent.taken o.faults sent.faults result) (sym is) w

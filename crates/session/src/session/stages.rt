@@ -11,7 +11,8 @@ ghost use Rattle.session.specs.Moves.{Tries, both};
 ghost use Rattle.session.specs.Place.{IsReady, IsWaiting, PlaceState, total_work};
 ghost use Rattle.session.specs.Sides.{Goes, HasBegun, IsMoveDue, IsMoved, IsNewManager, IsNext, IsOnward, IsRunning};
 ghost use Rattle.session.specs.Sides.{IsStop, MayMove};
-ghost use Rattle.session.specs.Sides.{by_side, less_one, machine_of, sides, sink};
+ghost use Rattle.turns.specs.Ahead.{less_one};
+ghost use Rattle.session.specs.Sides.{by_side, machine_of, sides, sink};
 
 use super::{Next, Session};
 use crate::Ending;

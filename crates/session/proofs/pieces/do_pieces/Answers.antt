@@ -1,7 +1,6 @@
 use Rattle.std.proofs.Common.{◌≡◌, ◌+◌, ◌<◌, ℕ, List, map, refl, sym, ap, ◌∙◌, arith, [], subst}
 use Rattle.nvm_model.specs.Turn.{left_in, next_lane}
-use Rattle.session.proofs.OrderLemmas.{all_done, left_at, left_few, left_less, does_more, works_on}
-use Rattle.session.proofs.WorkLemmas.{lefts_are}
+use Rattle.session.proofs.WorkLemmas.{lefts_are, all_done, left_at, left_few, left_less, does_more, works_on}
 use Rattle.session.proofs.pieces.do_pieces.Goals as goal
 use Rattle.mig_base.proofs.ListLemmas.{element_at, sum_less, sum_none}
 use Rattle.session.proofs.EntryLemmas.{room_due, rooms_first, rooms_next}

@@ -1,18 +1,16 @@
-use Rattle.std.proofs.Common.{◌≡◌, ◌∙◌, List, [], ℕ, ◌++◌, All, length, map, ap, sym, refl, subst, length-drop, arith}
+use Rattle.std.proofs.Common.{◌≡◌, ◌∙◌, List, [], ℕ, ◌++◌, map, ap, sym, refl, subst, length-drop, arith}
 use Rattle.nvm_values.specs.Status.{StatusPair}
-use Rattle.nvm_model.specs.declared.command.Command.{Command}
 use Rattle.nvm_model.specs.declared.line.Line.{Line}
 use Rattle.nvm_model.specs.Turn.{Plans}
-use Rattle.nvm_model.specs.World.{set_of}
-use Rattle.guest_ram.specs.Window.{data_pages}
-use Rattle.controller.specs.Pair.{IsFetched, fetch_line, lane_pieces, pair_of}
+use Rattle.controller.specs.Pair.{fetch_line, pair_of}
 use Rattle.controller.proofs.StepLemmas.{all_fetched}
 use Rattle.session.specs.LaneParts.{IsGuestStep, seat_of}
 use Rattle.session.specs.Lanes.{Stands}
 use Rattle.session.proofs.LanePartLemmas.{both_control, plans_lane, run_set, stands_free, step_more}
 use Rattle.session.proofs.plan.plan_lane.Goals as goal
-use Rattle.controller.proofs.PairLemmas.{pair_more, pair_stepped, with_here, with_same}
+use Rattle.controller.proofs.PairLemmas.{pair_more, pair_stepped}
 use Rattle.turns.specs.Parts.{Leads}
+use Rattle.controller.proofs.PlannedLemmas.{turn_planned}
 
 -- what the guest's steps left
 steps : (c : goal.After-push_fetches) → IsGuestStep c.args.script.now c.args.run.now.script.lane (seat_of c.args.run.now c.args.controller.now c.args.window.now) (seat_of c.do_acts.new.run c.do_acts.new.controller c.do_acts.new.window)
@@ -52,17 +50,6 @@ returns-clause-planned c =
     let s = c.args.script.now in
     let k = c.args.run.now.script.lane in
     let window = c.do_acts.new.window in
-    let step = c.fetch_turn.ensures.step.step in
-    let fetched : List Command = step.commands in
-    let pages : length (data_pages window) ≡ (set_of s.head k).pages = omega (arith, length-drop 2 window.pages, (steps c).seat.window.size) in
-    record {
-      planned = record {
-        pieces = with_here k (lane_pieces k s.head.shelf fetched) c.args.plan.now step.planned c.requires.plan.1 (omega (arith, c.requires.plan.0.count, c.requires.may.high, c.requires.may.free.seat.run.lane, c.requires.may.free.seat.run.script.lane.0))
-            ∙ ap (λ (cs : List Command). lane_pieces k s.head.shelf cs) (sym (all c));
-        told = step.told (none c);
-        checked = subst (λ (n : ℕ). All (IsFetched s.head.blocks n) (pair_of c.fetch_turn.new.self k).commands) pages
-            (subst (λ (cs : List Command). All (IsFetched s.head.blocks (length (data_pages window))) cs) (sym (all c)) step.fits);
-        few = omega (arith, step.few, (steps c).pairs.burst, c.requires.may.burst);
-      };
-      same = with_same k _ c.args.plan.now step.planned;
-    }
+    let is = c.requires.may.free.seat.run in
+    turn_planned s k c.fetch_turn.ensures.step.step refl refl (sym ((steps c).pairs.burst ∙ c.requires.may.burst)) (omega (arith, length-drop 2 window.pages, (steps c).seat.window.size)) (none c) c.requires.plan.1
+    (omega (arith, c.requires.plan.0.count, c.requires.may.high, is.lane, is.script.lane.0))

@@ -3,19 +3,19 @@ use Rattle.std.proofs.lemmas.Result.{err_from_is_err_and}
 use Rattle.session.specs.declared.ending.Ending.{Ending}
 use Rattle.session.specs.Moves.{both}
 use Rattle.session.specs.Sides.{IsMoved, SessionState}
-use Rattle.session.proofs.StageLemmas.{as_destination, as_source, goes_more, on_destination, on_source}
+use Rattle.session.proofs.StageLemmas.{goes_more, on_destination, on_source}
 use Rattle.session.proofs.whole.run.Goals as goal
 
 pub returns-in_err-turns-clause-went : goal.returns-in_err-turns-clause-went
 returns-in_err-turns-clause-went g c =
     let p = err_from_is_err_and c.from_residual-in_err-turns.result c.from_residual-in_err-turns.ensures.1 in
     let begun = ap (λ (s : SessionState). s.side) c.in_ok-begin.ensures.session ∙ c.requires.new.side in
-    rw p.1 (on_source (c.turns.ensures.onward.side ∙ begun) (goes_more (c.in_ok-begin.ensures.went c.args.to.now) (c.in_err-turns.ensures.went c.args.to.now)))
+    rw p.1 ((on_source (c.turns.ensures.onward.side ∙ begun)).0 (goes_more (c.in_ok-begin.ensures.went c.args.to.now) (c.in_err-turns.ensures.went c.args.to.now)))
 
 pub returns-then-not-branch-clause-went : goal.returns-then-not-branch-clause-went
 returns-then-not-branch-clause-went g c =
     let begun = ap (λ (s : SessionState). s.side) c.in_ok-begin.ensures.session ∙ c.requires.new.side in
-    on_source (ap (λ (s : SessionState). s.side) c.end.ensures.session ∙ c.turns.ensures.onward.side ∙ begun)
+    (on_source (ap (λ (s : SessionState). s.side) c.end.ensures.session ∙ c.turns.ensures.onward.side ∙ begun)).0
     (goes_more (goes_more (c.in_ok-begin.ensures.went c.args.to.now) (c.in_ok-turns.ensures.went c.args.to.now)) (c.end.ensures.went c.args.to.now))
 
 pub returns-in_err-move_to-clause-went : goal.returns-in_err-move_to-clause-went
@@ -27,10 +27,10 @@ pub returns-in-Done-clause-went : goal.returns-in-Done-clause-went
 returns-in-Done-clause-went g c =
     let moved = subst (λ (e : Ending). IsMoved e (both c.turns.new.at c.args.to.now) c.move_to.new.self (both c.move_to.new.at c.move_to.new.to)) c.in-Done.is c.in_ok-move_to.ensures.moved in
     let before = goes_more (c.in_ok-begin.ensures.went c.args.to.now) (c.in_ok-turns.ensures.went c.args.to.now) in
-    on_destination (c.finish.ensures.kept.1 ∙ moved.0) (goes_more (goes_more before (as_destination moved.0 c.in_ok-move_to.ensures.went)) (c.finish.ensures.went c.move_to.new.at))
+    (on_destination (c.finish.ensures.kept.1 ∙ moved.0)).0 (goes_more (goes_more before ((on_destination moved.0).1 c.in_ok-move_to.ensures.went)) (c.finish.ensures.went c.move_to.new.at))
 
 pub returns-in-GaveUp-clause-went : goal.returns-in-GaveUp-clause-went
 returns-in-GaveUp-clause-went g c =
     let moved = subst (λ (e : Ending). IsMoved e (both c.turns.new.at c.args.to.now) c.move_to.new.self (both c.move_to.new.at c.move_to.new.to)) c.in-GaveUp.is c.in_ok-move_to.ensures.moved in
     let before = goes_more (c.in_ok-begin.ensures.went c.args.to.now) (c.in_ok-turns.ensures.went c.args.to.now) in
-    on_source (c.finish-in-GaveUp.ensures.kept.1 ∙ moved.0) (goes_more (goes_more before (as_source moved.0 c.in_ok-move_to.ensures.went)) (c.finish-in-GaveUp.ensures.went c.move_to.new.to))
+    (on_source (c.finish-in-GaveUp.ensures.kept.1 ∙ moved.0)).0 (goes_more (goes_more before ((on_source moved.0).1 c.in_ok-move_to.ensures.went)) (c.finish-in-GaveUp.ensures.went c.move_to.new.to))

@@ -8,38 +8,29 @@ use Rattle.session.specs.Sides.{IsMoved, SessionState, machine_of}
 use Rattle.session.proofs.StageLemmas.{goes_more, if_ok, on_destination, on_source, resumed, stayed}
 use Rattle.session.proofs.session.Session.move_to.Goals as goal
 
-pub returns-in-Ok-clause-went : goal.returns-in-Ok-clause-went
-returns-in-Ok-clause-went g c =
-    let suspended = c.in_ok-suspend.ensures.session in
-    let ready = subst (λ (s : SessionState). IsReady s.script (machine_of s c.args.at.now)) (sym suspended) c.requires.running.ready in
-    let waits = subst (λ (s : SessionState). IsWaiting s.script c.args.to.now) (sym suspended) c.requires.waits in
-    let is = c.resume.ensures.session ∙ ap (λ (s : SessionState). record s { phase = Running; side = opposite s.side }) c.cut_over.ensures.session in
-    let to = resumed c.suspend.new.self ready c.resume.new.self (ap (λ (s : SessionState). s.phase) suspended) waits c.in-Ok.ensures.tried c.resume.ensures.written is in
-    on_destination (ap (λ (s : SessionState). s.side) is ∙ ap opposite (ap (λ (s : SessionState). s.side) suspended ∙ c.requires.source)) (goes_more (c.in_ok-suspend.ensures.went c.args.to.now) to.0)
-
-pub returns-in-Ok-clause-moved : goal.returns-in-Ok-clause-moved
-returns-in-Ok-clause-moved g c =
+pub returns-in-Ok : goal.returns-in-Ok
+returns-in-Ok g c =
     let suspended = c.in_ok-suspend.ensures.session in
     let ready = subst (λ (s : SessionState). IsReady s.script (machine_of s c.args.at.now)) (sym suspended) c.requires.running.ready in
     let waits = subst (λ (s : SessionState). IsWaiting s.script c.args.to.now) (sym suspended) c.requires.waits in
     let is = c.resume.ensures.session ∙ ap (λ (s : SessionState). record s { phase = Running; side = opposite s.side }) c.cut_over.ensures.session in
     let to = resumed c.suspend.new.self ready c.resume.new.self (ap (λ (s : SessionState). s.phase) suspended) waits c.in-Ok.ensures.tried c.resume.ensures.written is in
     let side = ap (λ (s : SessionState). s.side) is ∙ ap opposite (ap (λ (s : SessionState). s.side) suspended ∙ c.requires.source) in
-    if_ok c.resume.result (λ ending done. subst (λ (e : Ending). IsMoved e (both c.args.at.now c.args.to.now) c.resume.new.self (both c.cut_over.new.at c.cut_over.new.to)) (sym done) (side, to.1, c.in-Ok.ensures.tried.0.controllers)) c.resume.ensures.done
+    record {
+      went = (on_destination side).0 (goes_more (c.in_ok-suspend.ensures.went c.args.to.now) to.0);
+      moved = if_ok c.resume.result (λ ending done. subst (λ (e : Ending). IsMoved e (both c.args.at.now c.args.to.now) c.resume.new.self (both c.cut_over.new.at c.cut_over.new.to)) (sym done) (side, to.1, c.in-Ok.ensures.tried.0.controllers)) c.resume.ensures.done;
+      begun = record { script = ap (λ (s : SessionState). s.script) is ∙ ap (λ (s : SessionState). s.script) suspended; ahead = ap (λ (s : SessionState). s.ahead) is ∙ ap (λ (s : SessionState). s.ahead) suspended };
+    }
 
-pub returns-in-Err-clause-went : goal.returns-in-Err-clause-went
-returns-in-Err-clause-went g c =
-    let suspended = c.in_ok-suspend.ensures.session in
-    let ready = subst (λ (s : SessionState). IsReady s.script (machine_of s c.args.at.now)) (sym suspended) c.requires.running.ready in
-    let is = c.stay.ensures.session ∙ ap (λ (s : SessionState). record s { phase = Running }) c.cut_over.ensures.session in
-    let to = stayed c.suspend.new.self ready c.stay.new.self (ap (λ (s : SessionState). s.phase) suspended) c.in-Err.ensures.tried c.stay.ensures.written is in
-    on_source (ap (λ (s : SessionState). s.side) is ∙ ap (λ (s : SessionState). s.side) suspended ∙ c.requires.source) (goes_more (c.in_ok-suspend.ensures.went c.args.to.now) to.0)
-
-pub returns-in-Err-clause-moved : goal.returns-in-Err-clause-moved
-returns-in-Err-clause-moved g c =
+pub returns-in-Err : goal.returns-in-Err
+returns-in-Err g c =
     let suspended = c.in_ok-suspend.ensures.session in
     let ready = subst (λ (s : SessionState). IsReady s.script (machine_of s c.args.at.now)) (sym suspended) c.requires.running.ready in
     let is = c.stay.ensures.session ∙ ap (λ (s : SessionState). record s { phase = Running }) c.cut_over.ensures.session in
     let to = stayed c.suspend.new.self ready c.stay.new.self (ap (λ (s : SessionState). s.phase) suspended) c.in-Err.ensures.tried c.stay.ensures.written is in
     let side = ap (λ (s : SessionState). s.side) is ∙ ap (λ (s : SessionState). s.side) suspended ∙ c.requires.source in
-    if_ok c.stay.result (λ ending done. subst (λ (e : Ending). IsMoved e (both c.args.at.now c.args.to.now) c.stay.new.self (both c.cut_over.new.at c.cut_over.new.to)) (sym done) (side, to.1, c.in-Err.ensures.tried.controllers)) c.stay.ensures.gave_up
+    record {
+      went = (on_source side).0 (goes_more (c.in_ok-suspend.ensures.went c.args.to.now) to.0);
+      moved = if_ok c.stay.result (λ ending done. subst (λ (e : Ending). IsMoved e (both c.args.at.now c.args.to.now) c.stay.new.self (both c.cut_over.new.at c.cut_over.new.to)) (sym done) (side, to.1, c.in-Err.ensures.tried.controllers)) c.stay.ensures.gave_up;
+      begun = record { script = ap (λ (s : SessionState). s.script) is ∙ ap (λ (s : SessionState). s.script) suspended; ahead = ap (λ (s : SessionState). s.ahead) is ∙ ap (λ (s : SessionState). s.ahead) suspended };
+    }

@@ -1,4 +1,5 @@
-use Rattle.session.proofs.StageLemmas.{due_map, not_true}
+use Rattle.turns.proofs.AheadLaws.{due_map}
+use Rattle.session.proofs.StageLemmas.{not_true}
 use Rattle.session.proofs.session.Session.next.Goals as goal
 
 pub returns : goal.returns
