@@ -1,5 +1,5 @@
 // The hosts against the script, and as the places of a run.
-ghost use Rattle.std.specs.Prelude.{◌≡◌, ◌/◌, [], IfOk, OnErr, OnOk, replicate};
+ghost use Rattle.std.specs.Prelude.{◌≡◌, ◌*◌, ◌/◌, [], IfOk, OnErr, OnOk, replicate};
 ghost use Rattle.nvm_model.specs.Medium.{HaveSize, sizes_in};
 ghost use Rattle.nvm_model.specs.ScriptText.{IsHead};
 ghost use Rattle.nvm_model.specs.declared.run.Side.TheVariants.{Source, Destination};
@@ -97,6 +97,13 @@ fn open_place<M: Medium>(
     Ok(Place::open(namespace, ram, controller))
 }
 
+/// The most entries that a turn leaves in a shelf: each of its commands has at most one piece there.
+fn entries_of_turn(head: &Head) -> usize
+    ensures { result ≡ head.now.burst * head.now.lanes }
+{
+    head.burst as usize * usize::from(head.lanes)
+}
+
 /// Takes the media of a host, in their order, as a namespace.
 fn take_namespace<M: Medium>(
     alloc: Global,
@@ -113,9 +120,7 @@ fn take_namespace<M: Medium>(
     ensures ram { host.new.ram ≡ host.old.ram }
 {
     let media = replace(&mut host.shelves, Vec::new(alloc));
-    // A turn's commands have at most one piece each in a shelf.
-    let room = head.burst as usize * usize::from(head.lanes);
-    match Namespace::make(alloc, media, head.shelf, room) {
+    match Namespace::make(alloc, media, head.shelf, entries_of_turn(head)) {
         Ok(namespace) => {
             namespace.has_sizes();
             Ok(namespace)

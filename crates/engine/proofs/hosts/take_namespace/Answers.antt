@@ -1,4 +1,4 @@
-use Rattle.std.proofs.Common.{◌/◌, ap}
+use Rattle.std.proofs.Common.{◌/◌, ℕ, length, replicate, ap, ◌∙◌}
 use Rattle.engine.proofs.NamespaceLemmas.{all_of_size, same_media, is_namespace}
 use Rattle.engine.proofs.hosts.take_namespace.Goals as goal
 
@@ -12,7 +12,7 @@ returns-in-Ok-clause-media g c =
     let head = c.args.head.now in
     let media = ap (λ media. media.items) c.replace-media.ensures.value in (
       is_namespace (λ m. (g.M.Medium.state m).size) head c.replace-media.result.items c.in-Ok.namespace c.requires.head (same_media (λ m. (g.M.Medium.state m).size) media c.requires.sizes)
-          c.in-Ok.ensures.media c.in-Ok.ensures.shelf c.in-Ok.ensures.rooms,
+          c.in-Ok.ensures.media c.in-Ok.ensures.shelf (c.in-Ok.ensures.rooms ∙ ap (λ (room : ℕ). replicate (length c.replace-media.result.items) room) c.entries_of_turn.ensures),
       rw (c.in-Ok.ensures.media) media,
       rw (← c.in-Ok.ensures.shelf) c.has_sizes.ensures,
     )
