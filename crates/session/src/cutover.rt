@@ -22,8 +22,8 @@ pub(crate) fn cut_over<M: Medium, D: Dest>(
     to: &mut D,
 ) -> Result<Pause, MediumFault>
     requires new { manager.old.phase ≡ New }
-    requires fits { (names : ℕ × ℕ) → Fits (begun manager.old.set) (port_of M.state names at.old (D.state to.old)) }
-    requires may { (names : ℕ × ℕ) → MayCutOver (port_of M.state names at.old (D.state to.old)) }
+    requires fits { (names : ℕ × ℕ) → Fits (begun manager.old.set) (port_of M.state names at.old (D.state to.old))
+        × MayCutOver (port_of M.state names at.old (D.state to.old)) }
     requires left { 2 ^ 19 ≤ (D.state to.old).left }
     ensures { (names : ℕ × ℕ) × Brings (moves_port M.state M.moves D.moves) (begun manager.old.set) result
         (port_of M.state names at.old (D.state to.old)) (port_of M.state names at.new (D.state to.new)) }

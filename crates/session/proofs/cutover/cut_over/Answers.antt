@@ -5,7 +5,7 @@ use Rattle.session.proofs.MoveLemmas.{same_names}
 use Rattle.session.proofs.cutover.cut_over.Goals as goal
 
 pub bring-requires-clause-fits : goal.bring-requires-clause-fits
-bring-requires-clause-fits g c = rw (c.between-port.ensures.at, c.between-port.ensures.to) (c.requires.fits _, c.requires.may _)
+bring-requires-clause-fits g c = rw (c.between-port.ensures.at, c.between-port.ensures.to) (c.requires.fits _)
 
 pub returns : goal.returns
 returns g c =

@@ -6,11 +6,10 @@ use Rattle.session.proofs.MoveLemmas.{brought, fits, may_cut_over}
 use Rattle.session.proofs.session.Session.cut_over.Goals as goal
 
 pub cut_over-requires-clause-fits : goal.cut_over-requires-clause-fits
-cut_over-requires-clause-fits g c = λ names. fits g.M.Medium.state names c.requires.ready c.requires.waits.0 (begun c.self.inside.manager.set)
-    (ap (λ (s : SessionState). s.manager.set) c.self.view_is ∙ ap (λ (m : ManagerState). m.set) c.requires.waits.1)
-
-pub cut_over-requires-clause-may : goal.cut_over-requires-clause-may
-cut_over-requires-clause-may g c = λ names. may_cut_over g.M.Medium.state names c.requires.ready c.requires.waits.0
+cut_over-requires-clause-fits g c = λ names. (
+  fits g.M.Medium.state names c.requires.ready c.requires.waits.0 (begun c.self.inside.manager.set) (ap (λ (s : SessionState). s.manager.set) c.self.view_is ∙ ap (λ (m : ManagerState). m.set) c.requires.waits.1),
+  may_cut_over g.M.Medium.state names c.requires.ready c.requires.waits.0,
+)
 
 pub returns-clause-tried : goal.returns-clause-tried
 returns-clause-tried g c =
