@@ -168,9 +168,7 @@ fn hand_over(from: &mut Controller, to: &mut Controller, length: u32)
     for part in 0..264u32 {
         let offset = part * length;
         let get = What::GetState { offset, length };
-        let count = send(from, get, &mut bytes[..length as usize])
-            .1
-            .min(length);
+        let count = send(from, get, &mut bytes[..length as usize]).1.min(length);
         if count == 0 {
             return;
         }
