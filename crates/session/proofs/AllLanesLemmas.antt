@@ -24,19 +24,27 @@ use Rattle.session.specs.Work.{IsSameButRun, MayPost}
 
 -- Lane k, at place i, changed, and no other.
 
-pub record IsSameButLane (i k : ℕ) (runs new_runs : List LaneRun) (c new_c : ControllerState) (ws new_ws : List WindowState) : Type 0 where
+pub record Seats : Type 0 where
+  pub runs : List LaneRun
+  pub controller : ControllerState
+  pub windows : List WindowState
+
+abbrev pub seats : List LaneRun → ControllerState → List WindowState → Seats
+seats runs controller windows = record { runs = runs; controller = controller; windows = windows }
+
+pub record IsSameButLane (i k : ℕ) (old new : Seats) : Type 0 where
   pub number : k ≡ i + 1
-  pub there : i < length runs
-  pub runs_are : IsSameButRun i runs new_runs
-  pub pairs : IsSameButPair k c new_c
-  pub windows : IsSameButWindow k ws new_ws
+  pub there : i < length old.runs
+  pub runs_are : IsSameButRun i old.runs new.runs
+  pub pairs : IsSameButPair k old.controller new.controller
+  pub windows : IsSameButWindow k old.windows new.windows
 
 -- a run was put in its place
 pub run_put : {runs : List LaneRun} (i : ℕ) (run : LaneRun) → IsSameButRun i runs (set runs i run)
 run_put {runs} i run = record { count = length-set runs i run; others = λ j d other. get_or-set_other runs i j run d other }
 
 -- what holds of the lane as it is now, and of the others as they were, holds of all
-pub each_lane : {runs new_runs : List LaneRun} {c new_c : ControllerState} {ws new_ws : List WindowState} (P Q : ℕ → LaneRun → PairState → WindowState → Type 0) (i k n : ℕ) (d : LaneRun) → IsSameButLane i k runs new_runs c new_c ws new_ws →
+pub each_lane : {runs new_runs : List LaneRun} {c new_c : ControllerState} {ws new_ws : List WindowState} (P Q : ℕ → LaneRun → PairState → WindowState → Type 0) (i k n : ℕ) (d : LaneRun) → IsSameButLane i k (seats runs c ws) (seats new_runs new_c new_ws) →
     Q k (get_or new_runs i d) (pair_of new_c k) (window_of new_ws k) → ((j : ℕ) (r : LaneRun) (p : PairState) (w : WindowState) → 1 ≤ j → (j ≡ k → ⊥) → P j r p w → Q j r p w) →
     ((j : ℕ) → 1 ≤ j → j ≤ n → P j (get_or runs (j - 1) d) (pair_of c j) (window_of ws j)) → (j : ℕ) → 1 ≤ j → j ≤ n → Q j (get_or new_runs (j - 1) d) (pair_of new_c j) (window_of new_ws j)
 each_lane {runs} {new_runs} {c} {new_c} {ws} {new_ws} P Q i k n d same this others each j low high = ⊎_elim
@@ -54,7 +62,7 @@ each_lane {runs} {new_runs} {c} {new_c} {ws} {new_ws} P Q i k n d same this othe
     (cases_eq j k)
 
 -- the runs and the place are those of the script
-pub fit_more : {M : Type 0} {s : Script} {runs new_runs : List LaneRun} {old new : PlaceState M} {i k : ℕ} (d : LaneRun) → IsSameButLane i k runs new_runs old.controller new.controller old.windows new.windows →
+pub fit_more : {M : Type 0} {s : Script} {runs new_runs : List LaneRun} {old new : PlaceState M} {i k : ℕ} (d : LaneRun) → IsSameButLane i k (seats runs old.controller old.windows) (seats new_runs new.controller new.windows) →
     IsNamespaceOf s.head new.namespace → ((e : LaneRun) → IsRunOf s k (get_or new_runs i e)) → Fit s runs old → Fit s new_runs new
 fit_more {s = s} {i = i} {k} d same namespace this fit =
     let was = fit.at.windows.each k (omega (arith, same.number)) (omega (arith, same.number, same.there, fit.own.count)) in
@@ -83,10 +91,10 @@ put_here runs i run P there holds d = subst P (sym (get_or-set_same runs i run d
 
 -- a run was put in its place, and its seat alone changed
 pub seat_put : {M : Type 0} {s : Script} {runs : List LaneRun} {old new : PlaceState M} (i k : ℕ) (run : LaneRun) → k ≡ i + 1 → i < s.head.lanes → IsRunOf s k run → IsSameButSeat k old new → Fit s runs old →
-    IsSameButLane i k runs (set runs i run) old.controller new.controller old.windows new.windows × Fit s (set runs i run) new
+    IsSameButLane i k (seats runs old.controller old.windows) (seats (set runs i run) new.controller new.windows) × Fit s (set runs i run) new
 seat_put {M} {s} {runs} {old} {new} i k run at there is same fit =
     let inside : i < length runs = omega (arith, there, fit.own.count) in
-    let lane : IsSameButLane i k runs (set runs i run) old.controller new.controller old.windows new.windows = record { number = at; there = inside; runs_are = run_put i run; pairs = same.pairs; windows = same.windows } in
+    let lane : IsSameButLane i k (seats runs old.controller old.windows) (seats (set runs i run) new.controller new.windows) = record { number = at; there = inside; runs_are = run_put i run; pairs = same.pairs; windows = same.windows } in
     (lane, fit_more run lane (subst (λ (n : NamespaceState M). IsNamespaceOf s.head n) (sym same.namespace) fit.at.namespace) (put_here runs i run (IsRunOf s k) inside is) fit)
 
 -- what holds of the run of lane k, where it stands
@@ -113,7 +121,7 @@ seat_at {s = s} i run fit there run_is =
     )
 
 -- they stand for the lanes of which one has changed
-pub stands_more : {s : Script} {runs new_runs : List LaneRun} {c new_c : ControllerState} {ws new_ws : List WindowState} {lanes : List Lane} (i k : ℕ) (lane : Lane) → IsSameButLane i k runs new_runs c new_c ws new_ws → i < s.head.lanes →
+pub stands_more : {s : Script} {runs new_runs : List LaneRun} {c new_c : ControllerState} {ws new_ws : List WindowState} {lanes : List Lane} (i k : ℕ) (lane : Lane) → IsSameButLane i k (seats runs c ws) (seats new_runs new_c new_ws) → i < s.head.lanes →
     ((d : LaneRun) → Stands s k (get_or new_runs i d) (pair_of new_c k) (window_of new_ws k) lane) → StandsFor s runs c ws lanes → StandsFor s new_runs new_c new_ws (set lanes i lane)
 stands_more {s} {new_runs = new_runs} {new_c = new_c} {new_ws = new_ws} {lanes = lanes} i k lane same there this stands = record {
   count = length-set lanes i lane ∙ stands.count;
@@ -128,7 +136,7 @@ stands_more {s} {new_runs = new_runs} {new_c = new_c} {new_ws = new_ws} {lanes =
 
 -- the next lane did its part too
 pub led_more : {M : Type 0} {s : Script} {Part : ℕ → Lane → List Line → Lane → Type 0} {runs : List LaneRun} {lanes : List Lane} {a b c : List Line} {i k : ℕ} (old new : PlaceState M) (old_run run : LaneRun) →
-    IsSameButLane i k runs (set runs i run) old.controller new.controller old.windows new.windows → i < s.head.lanes → length lanes ≡ s.head.lanes → old_run ≡ get_or runs i old_run →
+    IsSameButLane i k (seats runs old.controller old.windows) (seats (set runs i run) new.controller new.windows) → i < s.head.lanes → length lanes ≡ s.head.lanes → old_run ≡ get_or runs i old_run →
     Leads (SoFar Part i) (StandsFor s runs old.controller old.windows) lanes a b → ((l : Lane) → Sits s k old_run old l → Leads (Part k) (Sits s k run new) l b c) →
     Leads (SoFar Part (i + 1)) (StandsFor s (set runs i run) new.controller new.windows) lanes a c
 led_more {s = s} {Part} {runs} {lanes} {a} {b} {c} {i} {k} old new old_run run same there count run_is led step =
@@ -153,7 +161,7 @@ pub record PlannedTo (s : Script) (plan : PlanState) (first k : ℕ) (run : Lane
   pub undone : run.results.items ≡ []
 
 -- one lane more was planned
-pub planned_more : {s : Script} {runs new_runs : List LaneRun} {c new_c : ControllerState} {ws new_ws : List WindowState} {plan new_plan : PlanState} {i k : ℕ} → IsSameButLane i k runs new_runs c new_c ws new_ws → PlansLane s k plan new_plan (pair_of new_c k) →
+pub planned_more : {s : Script} {runs new_runs : List LaneRun} {c new_c : ControllerState} {ws new_ws : List WindowState} {plan new_plan : PlanState} {i k : ℕ} → IsSameButLane i k (seats runs c ws) (seats new_runs new_c new_ws) → PlansLane s k plan new_plan (pair_of new_c k) →
     ((d : LaneRun) → (get_or new_runs i d).results.items ≡ []) → ((j : ℕ) (d : LaneRun) → 1 ≤ j → j ≤ s.head.lanes → PlannedTo s plan i j (get_or runs (j - 1) d) (pair_of c j)) →
     (j : ℕ) (d : LaneRun) → 1 ≤ j → j ≤ s.head.lanes → PlannedTo s new_plan (i + 1) j (get_or new_runs (j - 1) d) (pair_of new_c j)
 planned_more {s} {plan = plan} {new_plan} {i} {k} same plans none was j d =
@@ -174,7 +182,7 @@ pub record PostedTo (s : Script) (first k : ℕ) (run : LaneRun) (pair : PairSta
   pub later : first < k → MayPost s k run pair
 
 -- those of one lane more were posted
-pub posted_more : {s : Script} {runs new_runs : List LaneRun} {c new_c : ControllerState} {ws new_ws : List WindowState} {i k : ℕ} → IsSameButLane i k runs new_runs c new_c ws new_ws → (pair_of new_c k).commands ≡ [] →
+pub posted_more : {s : Script} {runs new_runs : List LaneRun} {c new_c : ControllerState} {ws new_ws : List WindowState} {i k : ℕ} → IsSameButLane i k (seats runs c ws) (seats new_runs new_c new_ws) → (pair_of new_c k).commands ≡ [] →
     ((d : LaneRun) → (get_or new_runs i d).results.items ≡ []) → ((j : ℕ) (d : LaneRun) → 1 ≤ j → j ≤ s.head.lanes → PostedTo s i j (get_or runs (j - 1) d) (pair_of c j)) →
     (j : ℕ) (d : LaneRun) → 1 ≤ j → j ≤ s.head.lanes → PostedTo s (i + 1) j (get_or new_runs (j - 1) d) (pair_of new_c j)
 posted_more {s} {i = i} {k} same commands none was j d =

@@ -37,7 +37,7 @@ use Rattle.controller.proofs.NextLemmas.{IsNext, lane_length, left_worked, next_
 use Rattle.controller.specs.Told.{called, piece_event}
 use Rattle.controller.proofs.DoneLemmas.{piece_does}
 use Rattle.mig_base.proofs.ListLemmas.{element_at, sum_few}
-use Rattle.session.proofs.AllLanesLemmas.{IsSameButLane, fit_more, stands_more}
+use Rattle.session.proofs.AllLanesLemmas.{IsSameButLane, fit_more, stands_more, seats}
 use Rattle.session.proofs.SeatLemmas.{other_windows}
 use Rattle.turns.specs.Parts.{Leads}
 use Rattle.std.proofs.lemmas.Bool.{cases_eq}
@@ -180,7 +180,7 @@ run_after {s} {k} {run} {new} has is = record {
 -- no other lane changed
 piece_same : {M I : Type 0} {state : M → MediumState I} {moves : I → Step → Bool → I → Type 0} {runs new_runs : List LaneRun} {old new : PlaceState M} {piece : Piece} {result : PieceResult} (at : ℕ) →
     piece.lane ≡ at + 1 → at < length runs → at < length old.windows → DoesPieceAt state moves piece result old new → HasResultAt at result runs new_runs →
-    IsSameButLane at piece.lane runs new_runs old.controller new.controller old.windows new.windows
+    IsSameButLane at piece.lane (seats runs old.controller old.windows) (seats new_runs new.controller new.windows)
 piece_same {old = old} {new} {piece} at number there low does has = record {
   number = number;
   there = there;

@@ -127,15 +127,11 @@ port_of state names from to = record {
   inside = record { names = names; from = from; to = to.inside };
 }
 
--- a block was got at the place, or that failed
-abbrev pub GetsAt : {M I : Type 0} → (M → MediumState I) → (I → Step → Bool → I → Type 0) → ℕ → List ℕ → Bool → PlaceState M → PlaceState M → Type 0
-GetsAt state moves b bytes failed old new = CallsPlace state moves (at_block old.namespace.shelf b (get_of bytes failed) ∷ []) old new
-
 -- how a call takes both ends on
 abbrev pub moves_ends : {M I J : Type 0} → (M → MediumState I) → (I → Step → Bool → I → Type 0) → (J → DestCall → J → Type 0) → Ends M J → PortCall → Ends M J → Type 0
-moves_ends state moves dest old (Copying b bytes Copied) new = GetsAt state moves b bytes false old.from new.from × dest old.to (Put b bytes false) new.to
-moves_ends state moves dest old (Copying b bytes (Fault From)) new = GetsAt state moves b [] true old.from new.from × (new.to ≡ old.to)
-moves_ends state moves dest old (Copying b bytes (Fault To)) new = GetsAt state moves b bytes false old.from new.from × dest old.to (Put b bytes true) new.to
+moves_ends state moves dest old (Copying b bytes Copied) new = CallsPlace state moves (at_block old.from.namespace.shelf b (get_of bytes false) ∷ []) old.from new.from × dest old.to (Put b bytes false) new.to
+moves_ends state moves dest old (Copying b bytes (Fault From)) new = CallsPlace state moves (at_block old.from.namespace.shelf b (get_of [] true) ∷ []) old.from new.from × (new.to ≡ old.to)
+moves_ends state moves dest old (Copying b bytes (Fault To)) new = CallsPlace state moves (at_block old.from.namespace.shelf b (get_of bytes false) ∷ []) old.from new.from × dest old.to (Put b bytes true) new.to
 moves_ends state moves dest old (Commanding From cmd bytes cpl new_bytes) new = Obeys old.from new.from × (new.to ≡ old.to)
 moves_ends state moves dest old (Commanding To cmd bytes cpl new_bytes) new = (new.from ≡ old.from) × dest old.to (Admin cmd bytes cpl new_bytes) new.to
 moves_ends state moves dest old (CopyingPage page) new = (new.from ≡ old.from) × (bytes : List ℕ) × dest old.to (Page page bytes) new.to

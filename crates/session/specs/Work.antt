@@ -7,6 +7,7 @@ use Rattle.nvm_blocks.specs.Namespace.{Enters, NamespaceState}
 use Rattle.hall.specs.Plan.{PlanState, pieces_of}
 use Rattle.controller.specs.Pair.{IsFetched, PairState, lane_pieces, told_fetch}
 use Rattle.session.specs.declared.lane_run.LaneRun.{LaneRun}
+use Rattle.session.specs.declared.pieces.Due.{Due}
 
 -- The pieces of a turn, one by one.
 
@@ -39,11 +40,11 @@ abbrev pub due_piece : List LaneRun → PlanState → ℕ → LaneRun → Piece 
 due_piece runs plan at d none = slice_index_or (pieces_of plan (at + 1)) (length (slice_index_or runs at d).results.items) none
 
 -- it was done: its result stands behind its lane's, and its entry, with the ticket that it drew, behind its shelf's
-pub record HasDone {M : Type 0} (at ticket : ℕ) (plan : PlanState) (runs new_runs : List LaneRun) (n new : NamespaceState M) : Type 0 where
+pub record HasDone {M : Type 0} (due : Due) (plan : PlanState) (runs new_runs : List LaneRun) (n new : NamespaceState M) : Type 0 where
   pub result : PieceResult
-  pub has : HasResultAt at result runs new_runs
+  pub has : HasResultAt due.at result runs new_runs
   pub entered : (d : LaneRun) (none : Piece)
-      → Enters (due_piece runs plan at d none).span.first (record { lane = (due_piece runs plan at d none).lane; index = length (slice_index_or runs at d).results.items; ticket = ticket; result = result }) n new
+      → Enters (due_piece runs plan due.at d none).span.first (record { lane = (due_piece runs plan due.at d none).lane; index = length (slice_index_or runs due.at d).results.items; ticket = due.ticket; result = result }) n new
 
 -- the commands of a lane were fetched, and all their pieces were done
 pub record MayPost (s : Script) (k : ℕ) (run : LaneRun) (pair : PairState) : Type 0 where

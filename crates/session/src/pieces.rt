@@ -110,7 +110,7 @@ fn do_piece<M: Medium>(
         → MayBeNext (serial script.now) h.drawn h.lanes (due.at + 1)
         → Leads (DoesPieces M.state M.moves script.now) (StandsNext script.now runs.new.items place.new h.drawn)
         h events.old.items events.new.items }
-    ensures done { HasDone due.at due.ticket plan.now runs.old.items runs.new.items
+    ensures done { HasDone due plan.now runs.old.items runs.new.items
         place.old.namespace place.new.namespace }
     ensures has { HasPlan script.now runs.new.items plan.now place.new }
     ensures more { (vec_len events.new ≡ vec_len events.old + 1)
