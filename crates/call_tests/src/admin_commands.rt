@@ -125,3 +125,83 @@ fn a_change_queue(rt: HostRuntime) -> Result<(), Fail> {
     assert!(rt; ask(controller, What::TrackMemory { start }) == (Status::INVALID_OPCODE, 0));
     Ok(())
 }
+
+/// A controller of eight pairs that waits for a state.
+fn eight_waiting(alloc: Global) -> Result<Controller, Fail>
+    ensures { IfOk result (λ c. All (λ p. p.commands ≡ []) c.pairs) }
+{
+    let set = PairSet {
+        sq: 8,
+        cq: 8,
+        pages: 2,
+    };
+    Ok(
+        Controller::blank(alloc, &[set; 8], 2, 3)
+            .ok()
+            .ok_or("controller")?,
+    )
+}
+
+/// The image of eight such pairs, of which no two have the same head of the submission ring.
+fn image_of_eight() -> [u8; 264] {
+    let mut image = [0; 264];
+    image[..8].copy_from_slice(&[1, 0, 8, 0, 8, 1, 0, 0]);
+    for lane in 0..8usize {
+        let at = 8 + 32 * lane;
+        image[at..at + 32].copy_from_slice(&IMAGE[8..]);
+        image[at + 3] = lane as u8 + 1;
+        image[at + 11] = lane as u8 + 1;
+        image[at + 18] = lane as u8;
+    }
+    image
+}
+
+/// Hands a state over in parts of so many bytes.
+fn hand_over(from: &mut Controller, to: &mut Controller, length: u32)
+    requires length { (1 ≤ length) × (length ≤ 264) }
+    requires from { All (λ p. p.commands ≡ []) from.old.pairs }
+    requires to { All (λ p. p.commands ≡ []) to.old.pairs }
+    ensures from { All (λ p. p.commands ≡ []) from.new.pairs }
+    ensures to { All (λ p. p.commands ≡ []) to.new.pairs }
+{
+    let mut bytes = [0; 264];
+    'parts: for part in 0..264u32 {
+        let offset = part * length;
+        let get = What::GetState { offset, length };
+        let count = send(from, get, &mut bytes[..length as usize]).1.min(length);
+        if count == 0 {
+            return;
+        }
+        let set = What::SetState {
+            offset,
+            length: count,
+        };
+        let _taken = send(to, set, &mut bytes[..count as usize]);
+    }
+}
+
+/// A state of 264 bytes crosses in parts of each length from 1 to 264.
+#[test]
+fn a_state_crosses_in_parts_of_any_length(rt: HostRuntime) -> Result<(), Fail> {
+    let image = image_of_eight();
+    for length in 1..265u32 {
+        let from = &mut eight_waiting(rt.alloc())?;
+        let to = &mut eight_waiting(rt.alloc())?;
+        let mut bytes = image;
+        let set = What::SetState {
+            offset: 0,
+            length: 264,
+        };
+        assert!(rt; send(from, set, &mut bytes) == DONE);
+        assert!(rt; ask(from, What::Resume) == DONE && ask(from, What::Suspend) == DONE);
+        hand_over(from, to, length);
+        assert!(rt; ask(to, What::Resume) == DONE && ask(to, What::Suspend) == DONE);
+        let mut copy = [0; 264];
+        let get = What::GetState {
+            offset: 0,
+            length: 264,
+        };
+        assert!(rt; send(to, get, &mut copy) == (Status::SUCCESS, 264) && copy == image);
+    }
+    Ok(())
+}
