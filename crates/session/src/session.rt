@@ -1,4 +1,4 @@
-ghost use Rattle.std.specs.Prelude.{◌≡◌, ◌-◌, ◌≤◌, ℕ, IfOk, IfSome, IsTrue, length, slice_index_or};
+ghost use Rattle.std.specs.Prelude.{◌≡◌, ◌-◌, ◌≤◌, ℕ, All, IfOk, IfSome, IsTrue, length, slice_index_or};
 ghost use Rattle.nvm_model.specs.ScriptText.{IsHead, IsScript};
 ghost use Rattle.nvm_model.specs.World.{window_pages};
 ghost use Rattle.session.specs.declared.lane_run.LaneRun.{LaneRun};
@@ -109,7 +109,7 @@ impl Session {
     pub fn next(&self) -> Next
         ensures { IsNext self.now result }
     {
-        let complete = are_all_done(&self.script, &self.runs);
+        let complete = are_all_done(&self.runs);
         if is_due(self.ahead, complete) {
             return Next::Move;
         }
@@ -177,8 +177,7 @@ fn make_runs(alloc: Global, script: &Script) -> Result<Vec<LaneRun>, OutOfMemory
     ensures count { IfOk result (λ runs. length runs.items ≡ script.now.head.lanes) }
     ensures runs { IfOk result (λ runs. (k : ℕ) (d : LaneRun) → 1 ≤ k → k ≤ script.now.head.lanes
         → IsRunOf script.now k (slice_index_or runs.items (k - 1) d)) }
-    ensures new { IfOk result (λ runs. (k : ℕ) (d : LaneRun) → 1 ≤ k → k ≤ script.now.head.lanes
-        → IsNewRun script.now k (slice_index_or runs.items (k - 1) d)) }
+    ensures new { IfOk result (λ runs. All IsNewRun runs.items) }
 {
     let mut runs = Vec::with_capacity(alloc, usize::from(script.head.lanes))?;
     for at in 0..script.head.lanes {
