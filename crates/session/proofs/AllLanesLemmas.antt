@@ -16,7 +16,7 @@ use Rattle.session.specs.declared.lane_run.LaneRun.{LaneRun}
 use Rattle.session.specs.LaneParts.{HasMore}
 use Rattle.session.specs.Lanes.{IsRunOf, IsWindowOf, Stands, window_of}
 use Rattle.session.specs.Phases.{Fit}
-use Rattle.session.specs.Place.{AreIdle, AreRunsOf, PlaceState, StandsFor}
+use Rattle.session.specs.Place.{AreQuiet, AreRunsOf, PlaceState, StandsFor}
 use Rattle.session.specs.Seats.{HasSeat, IsSameButSeat, IsSameButWindow, Sits}
 use Rattle.session.specs.Shelves.{IsNamespaceOf}
 use Rattle.session.specs.Work.{IsSameButRun, MayPost}
@@ -31,9 +31,9 @@ at_place P xs i k d number holds = let here : k - 1 ≡ i = omega (arith, number
 pub all_lanes : {X : Type 0} {n : ℕ} (P : X → Type 0) (xs : List X) (d : X) → length xs ≡ n → ((k : ℕ) → 1 ≤ k → k ≤ n → P (get_or xs (k - 1) d)) → All P xs
 all_lanes P xs d count each = All-from_get_or P xs d (λ i there. at_place P xs i (i + 1) d refl (each (i + 1) (omega arith) (omega (arith, there, count))))
 
--- of idle pairs none has a command, whatever its number
-pub idle_at : (c : ControllerState) → AreIdle c.pairs → (k : ℕ) → (pair_of c k).commands ≡ []
-idle_at c idle k = ⊎_elim (λ (there : k - 1 < length c.pairs). idle (k - 1) no_pair there)
+-- of quiet pairs none has a command, whatever its number
+pub quiet_at : (c : ControllerState) → AreQuiet c.pairs → (k : ℕ) → (pair_of c k).commands ≡ []
+quiet_at c quiet k = ⊎_elim (λ (there : k - 1 < length c.pairs). quiet (k - 1) no_pair there)
     (λ (past : length c.pairs ≤ k - 1). ap (λ (p : PairState). p.commands) (get_or_past c.pairs (k - 1) no_pair past)) (cases_lt (k - 1) (length c.pairs))
 
 -- A part of a turn, lane after lane.

@@ -172,8 +172,8 @@ module _ {M I : Type 0} (state : M → MediumState I) {s : Script} {m : Machine 
         from_pages = have_pages ready.script.head ready.place.windows ∙ pages;
         to_pages = have_pages ready.script.head waits.at.windows ∙ pages;
         calls = omega arith;
-        from_quiet = ready.idle;
-        to_quiet = waits.idle;
+        from_quiet = ready.quiet;
+        to_quiet = waits.quiet;
       }
 
   -- the source's rings are those of an image

@@ -11,7 +11,7 @@ use Rattle.controller.specs.declared.controller.Phase.TheVariants.{Loading, Runn
 use Rattle.controller.specs.Pair.{ControllerState, IsMade, PairState, new_pair, no_pair, pair_of, outcomes_of, worked}
 use Rattle.nvm_model.specs.Run.{Here, start_lanes}
 use Rattle.session.specs.Opened.{IsNewPlace, Opens, memory_made}
-use Rattle.session.specs.Place.{AreIdle, AreRunsOf, IsPlaceOf, IsWaiting, PlaceState, StandsFor, StandsOn}
+use Rattle.session.specs.Place.{AreQuiet, AreRunsOf, IsPlaceOf, IsWaiting, PlaceState, StandsFor, StandsOn}
 use Rattle.nvm_model.specs.Memory.{zero_page}
 use Rattle.nvm_ring.specs.Queues.{HasWindow}
 use Rattle.guest_ram.specs.Window.{WindowState}
@@ -51,11 +51,11 @@ have_made {s} {windows} is made = record {
 }
 
 -- a new run with a new pair over a zeroed window stands for a new lane
-new_lane_stands : {s : Script} {k : ℕ} {run : LaneRun} {pair : PairState} {window : WindowState} → IsSet (set_of s.head k) → IsRunOf s k run → IsNewRun run → pair ≡ new_pair s.head.burst (set_of s.head k) →
+new_lane_stands : {s : Script} {k : ℕ} {run : LaneRun} {pair : PairState} {window : WindowState} → IsSet (set_of s.head k) → IsRunOf s k run → IsNewRun s run → pair ≡ new_pair s.head.burst (set_of s.head k) →
     window ≡ record { lane = k; pages = replicate ((set_of s.head k).pages + 2) zero_page } → Stands s k run pair window (new_lane (set_of s.head k).pages)
 new_lane_stands {s} {k} {run} {pair} {window} set is new pair_is window_is =
     let sizes = set_of s.head k in
-    let same : run.script.set ≡ sizes = is.script.set_is ∙ ap (set_of s.head) is.lane in
+    let same : set_of s.head run.script.lane ≡ sizes = ap (set_of s.head) is.lane in
     let own : window ≡ record { lane = run.guest.lane; pages = replicate (sizes.pages + 2) zero_page } = window_is ∙ ap (λ (j : ℕ). record { lane = j; pages = replicate (sizes.pages + 2) zero_page }) (sym is.guest) in
     let guest = guest_starts set own (ap (λ (g : GuestState). g.waiting) new.guest) (rw (← same) (ap (λ (g : GuestState). g.sq) new.guest)) (rw (← same) (ap (λ (g : GuestState). g.cq) new.guest)) in
     record {
@@ -91,11 +91,11 @@ is_place {M} {s} {place = place} is new = record {
 }
 
 -- no command of a new controller is under way
-idle_made : {phase : Phase} {sets : List LaneSet} {cells burst : ℕ} {controller : ControllerState} → IsMade phase sets cells burst controller → AreIdle controller.pairs
-idle_made {sets = sets} {burst = burst} made = subst AreIdle (sym made.pairs) (All-map (λ (p : PairState). p.commands ≡ []) (new_pair burst) sets (λ i d there. refl))
+quiet_made : {phase : Phase} {sets : List LaneSet} {cells burst : ℕ} {controller : ControllerState} → IsMade phase sets cells burst controller → AreQuiet controller.pairs
+quiet_made {sets = sets} {burst = burst} made = subst AreQuiet (sym made.pairs) (All-map (λ (p : PairState). p.commands ≡ []) (new_pair burst) sets (λ i d there. refl))
 
 -- new runs stand for the lanes at the start, with either place
-starts : {M : Type 0} {s : Script} {runs : List LaneRun} {phase : Phase} {media : List M} {place : PlaceState M} → IsScript s → AreRunsOf s runs → All IsNewRun runs → IsNewPlace phase s.head media place →
+starts : {M : Type 0} {s : Script} {runs : List LaneRun} {phase : Phase} {media : List M} {place : PlaceState M} → IsScript s → AreRunsOf s runs → All (IsNewRun s) runs → IsNewPlace phase s.head media place →
     StandsFor s runs place.controller place.windows (start_lanes s)
 starts {s = s} {runs} {place = place} is are new at = record {
   count = start_count s is.head;
@@ -108,7 +108,7 @@ is_waiting : {M : Type 0} {s : Script} {media : List M} {place : PlaceState M} �
 is_waiting {s = s} is at = record {
   at = is_place is at;
   waiting = λ running. absurd cc (at.controller.phase_is, running);
-  idle = idle_made at.controller;
+  quiet = quiet_made at.controller;
   fed = ap (λ (f : PartsState). f.lanes) at.controller.none_fed ∙ sym (ap (λ (ps : List PairState). length ps) at.controller.pairs ∙ length-map (take s.head.lanes s.head.sets) (new_pair s.head.burst));
 }
 
@@ -125,7 +125,7 @@ opens {M} {session} {from_media} {to_media} {from} {to} is new source destinatio
     let lanes = starts is new.runs new.new source in
     let stands : StandsOn s (machine_of session from) here = record { lanes = lanes; media = sym source.media_are; words = inr (rw new.mix new.words) } in
     record {
-      ready = record { script = is; runs = new.runs; place = is_place is source; running = source.controller.phase_is; mix = new.mix; idle = idle_made source.controller; undone = λ i d there. (new.new i d there).results; stood = here; stands = stands };
+      ready = record { script = is; runs = new.runs; place = is_place is source; running = source.controller.phase_is; mix = new.mix; quiet = quiet_made source.controller; undone = λ i d there. (new.new i d there).results; stood = here; stands = stands };
       waits = is_waiting is destination;
       stands = λ out. record {
         task = refl;

@@ -14,8 +14,8 @@ use Rattle.nvm_model.specs.Run.{among}
 use Rattle.turns.proofs.PartLaws.{at_rest_from, first_of, later_of, served_from}
 use Rattle.session.specs.declared.lane_run.LaneRun.{LaneRun}
 use Rattle.session.specs.Lanes.{IsComplete, IsRunOf, Stands}
-use Rattle.session.specs.Place.{AreIdle, AreRunsOf, StandsFor, run_work, total_work}
-use Rattle.session.proofs.AllLanesLemmas.{all_lanes, idle_at}
+use Rattle.session.specs.Place.{AreQuiet, AreRunsOf, StandsFor, run_work, total_work}
+use Rattle.session.proofs.AllLanesLemmas.{all_lanes, quiet_at}
 use Rattle.turns.proofs.ScriptLaws.{set_fits}
 
 -- What is known of the lanes for which runs stand between two turns.
@@ -85,11 +85,11 @@ work_from s k (run ∷ runs) controller (lane ∷ lanes) same each =
     omega (arith, first, others)
 
 -- lanes between turns are at rest
-pub at_rest : {s : Script} {runs : List LaneRun} {controller : ControllerState} {windows : List WindowState} {lanes : List Lane} → IsScript s → AreRunsOf s runs → AreIdle controller.pairs → StandsFor s runs controller windows lanes → AreAtRest s 1 lanes
-at_rest {s} {controller = controller} {lanes = lanes} is are idle stands = at_rest_from s 1 lanes (λ k first there.
+pub at_rest : {s : Script} {runs : List LaneRun} {controller : ControllerState} {windows : List WindowState} {lanes : List Lane} → IsScript s → AreRunsOf s runs → AreQuiet controller.pairs → StandsFor s runs controller windows lanes → AreAtRest s 1 lanes
+at_rest {s} {controller = controller} {lanes = lanes} is are quiet stands = at_rest_from s 1 lanes (λ k first there.
     let few : k ≤ s.head.lanes = omega (arith, there, stands.count) in
     let d = some_run is are in
-    lane_rests (are.each k d first few) (stands.each k d (new_lane 0) first few) (idle_at controller idle k))
+    lane_rests (are.each k d first few) (stands.each k d (new_lane 0) first few) (quiet_at controller quiet k))
 
 pub are_served : (s : Script) (lanes : List Lane) → IsScript s → length lanes ≡ s.head.lanes → AreServed s 1 lanes
 are_served s lanes is count = served_from s 1 lanes (λ k first there. set_fits s.head k is.head first (omega (arith, there, count)))
@@ -108,7 +108,7 @@ done_is {runs = runs} is are stands complete =
     all_lanes IsComplete runs d are.count (λ k first few. (lane_completes (are.each k d first few) (stands.each k d (new_lane 0) first few)).1 (complete k (first, omega (arith, few, stands.count))))
 
 -- what is left is what the lanes have left
-pub work_is : {s : Script} {runs : List LaneRun} {controller : ControllerState} {windows : List WindowState} {lanes : List Lane} → IsScript s → AreRunsOf s runs → AreIdle controller.pairs → StandsFor s runs controller windows lanes → total_work 1 runs controller ≡ total_left s 1 lanes
-work_is {s} {runs} {controller} {lanes = lanes} is are idle stands = work_from s 1 runs controller lanes (are.count ∙ sym stands.count) (λ k d first there.
+pub work_is : {s : Script} {runs : List LaneRun} {controller : ControllerState} {windows : List WindowState} {lanes : List Lane} → IsScript s → AreRunsOf s runs → AreQuiet controller.pairs → StandsFor s runs controller windows lanes → total_work 1 runs controller ≡ total_left s 1 lanes
+work_is {s} {runs} {controller} {lanes = lanes} is are quiet stands = work_from s 1 runs controller lanes (are.count ∙ sym stands.count) (λ k d first there.
     let few : k ≤ s.head.lanes = omega (arith, there, stands.count) in
-    lane_work (are.each k d first few) (set_fits s.head k is.head first few) (stands.each k d (new_lane 0) first few) (idle_at controller idle k))
+    lane_work (are.each k d first few) (set_fits s.head k is.head first few) (stands.each k d (new_lane 0) first few) (quiet_at controller quiet k))

@@ -34,11 +34,11 @@ use Rattle.manager.specs.declared.manager.Pause.{Pause}
 use Rattle.session.specs.Moves.{Moves, Stays, Tries, both}
 use Rattle.session.specs.Lanes.{HaveWindows, IsComplete}
 use Rattle.nvm_model.specs.Told.{serial}
-use Rattle.session.specs.Place.{IsPlaceOf, AreIdle, DoesTurn, IsReady, IsWaiting, PlaceState, StandsFor, StandsOn, machine, pages_of}
+use Rattle.session.specs.Place.{IsPlaceOf, AreQuiet, DoesTurn, IsReady, IsWaiting, PlaceState, StandsFor, StandsOn, machine, pages_of}
 use Rattle.session.specs.Sides.{Goes, IsMoveDue, IsOnward, IsRunning, SessionState, Sides, at_side, by_side, machine_of, sides}
 use Rattle.session.proofs.MemoryLemmas.{whole_memory}
 use Rattle.session.proofs.ShelvesLemmas.{same_namespace}
-use Rattle.session.proofs.AllLanesLemmas.{all_lanes, idle_at}
+use Rattle.session.proofs.AllLanesLemmas.{all_lanes, quiet_at}
 use Rattle.session.proofs.RestLemmas.{complete_is, done_is}
 use Rattle.turns.proofs.CopyLaws.{calls_along}
 use Rattle.manager.proofs.StateLemmas.{rings_at}
@@ -176,26 +176,26 @@ module _ {M : Type 0} (s : SessionState) (new : ControllerState) {at to : PlaceS
   pairs_there : length new.pairs ≡ s.script.head.lanes
   pairs_there = ap (λ (c : ControllerState). length c.pairs) is ∙ length-with_images (map image_of at.controller.pairs) to.controller.pairs ∙ waits.at.pairs
 
-  idle_there : AreIdle new.pairs
-  idle_there = all_lanes (λ (p : PairState). p.commands ≡ []) new.pairs no_pair pairs_there (λ k low high. ap (λ (p : PairState). p.commands) (pair_there k low high) ∙ idle_at to.controller waits.idle k)
+  quiet_there : AreQuiet new.pairs
+  quiet_there = all_lanes (λ (p : PairState). p.commands ≡ []) new.pairs no_pair pairs_there (λ k low high. ap (λ (p : PairState). p.commands) (pair_there k low high) ∙ quiet_at to.controller waits.quiet k)
 
   rings_there : HaveSameRings s.script at.controller new
   rings_there = record {
     sq = λ k low high. ap (λ (p : PairState). p.sq) (pair_there k low high);
     cq = λ k low high. ap (λ (p : PairState). p.cq) (pair_there k low high);
-    commands = λ k low high. idle_at new idle_there k ∙ sym (idle_at at.controller ready.idle k);
+    commands = λ k low high. quiet_at new quiet_there k ∙ sym (quiet_at at.controller ready.quiet k);
   }
 
 -- a machine is ready where its guests stand on that place
 ready_at : {M : Type 0} (s : SessionState) {at new : PlaceState M} (ready : IsReady s.script (machine_of s at)) → IsPlaceOf s.script new → new.controller.phase ≡ Started →
-    AreIdle new.controller.pairs → StandsFor s.script s.runs new.controller new.windows ready.stood.lanes → IsReady s.script (machine_of s new)
-ready_at s {at} {new} ready place running idle lanes = record {
+    AreQuiet new.controller.pairs → StandsFor s.script s.runs new.controller new.windows ready.stood.lanes → IsReady s.script (machine_of s new)
+ready_at s {at} {new} ready place running quiet lanes = record {
   script = ready.script;
   runs = ready.runs;
   place = place;
   running = running;
   mix = ready.mix;
-  idle = idle;
+  quiet = quiet;
   undone = ready.undone;
   stood = record ready.stood { media = media_of new.namespace };
   stands = record { lanes = lanes; media = refl; words = ready.stands.words };
@@ -212,7 +212,7 @@ module _ {M I : Type 0} {state : M → MediumState I} {moves : I → Step → Bo
     windows = subst (HaveWindows s.script) (sym m.to_memory) ready.place.windows;
     pairs = pairs_there s new_to.controller ready waits m.controllers.1;
     burst = ap (λ (c : ControllerState). c.burst) m.controllers.1 ∙ waits.at.burst;
-  }) (ap (λ (c : ControllerState). c.phase) m.controllers.1) (idle_there s new_to.controller ready waits m.controllers.1) (lanes_there waits m ready.stood.lanes ready.stands.lanes)
+  }) (ap (λ (c : ControllerState). c.phase) m.controllers.1) (quiet_there s new_to.controller ready waits m.controllers.1) (lanes_there waits m ready.stood.lanes ready.stands.lanes)
 
   -- or here, where the guests stayed
   lanes_here : Stays state moves s.script (both at to) (both new_at new_to) → (lanes : List Lane) → StandsFor s.script s.runs at.controller at.windows lanes → StandsFor s.script s.runs new_at.controller new_at.windows lanes
@@ -228,7 +228,7 @@ module _ {M I : Type 0} {state : M → MediumState I} {moves : I → Step → Bo
         windows = subst (HaveWindows s.script) (sym m.crosses.from_memory) ready.place.windows;
         pairs = ap length pairs ∙ ready.place.pairs;
         burst = ap (λ (c : ControllerState). c.burst) m.controllers.0 ∙ ready.place.burst;
-      }) (ap (λ (c : ControllerState). c.phase) m.controllers.0) (subst AreIdle (sym pairs) ready.idle)
+      }) (ap (λ (c : ControllerState). c.phase) m.controllers.0) (subst AreQuiet (sym pairs) ready.quiet)
       (lanes_here m ready.stood.lanes ready.stands.lanes)
 
   -- the run goes on at the other side

@@ -14,7 +14,7 @@ use Rattle.session.specs.declared.lane_run.LaneRun.{LaneRun}
 use Rattle.session.specs.Lanes.{IsComplete}
 use Rattle.session.specs.Phases.{DoesPieces, Fit}
 use Rattle.nvm_model.specs.Told.{serial}
-use Rattle.session.specs.Place.{AreIdle, AreUndone, DoesTurn, IsReady, Machine, PlaceState, StandsFor, StandsOn, machine, total_work}
+use Rattle.session.specs.Place.{AreQuiet, AreUndone, DoesTurn, IsReady, Machine, PlaceState, StandsFor, StandsOn, machine, total_work}
 use Rattle.turns.proofs.NextPieceLaws.{pieces_keep}
 use Rattle.session.proofs.RestLemmas.{are_served, at_rest, done_is, work_is}
 use Rattle.turns.specs.Parts.{Leads}
@@ -42,7 +42,7 @@ pub record Phases {M I : Type 0} (state : M → MediumState I) (moves : I → St
       → Leads (InLanes (PostsAll s) 1) (StandsFor s new.runs new.place.controller new.place.windows) lanes worked_events events
   pub posts_kept : new.place.namespace ≡ worked_place.namespace
   pub fit : Fit s new.runs new.place
-  pub idle : AreIdle new.place.controller.pairs
+  pub quiet : AreQuiet new.place.controller.pairs
   pub undone : AreUndone new.runs
   pub mix : new.order.mix ≡ s.head.mix
 
@@ -56,7 +56,7 @@ phases_from {M} {state = state} {moves} {s} {old} {new} {events} p h stands =
     let works = p.works planned (record { lanes = plan.stands; media = media; words = stands.words }) in
     let posts = p.posts works.new.lanes works.stands.lanes in
     let is = p.ready.script in
-    let rest = at_rest is p.ready.runs p.ready.idle stands.lanes in
+    let rest = at_rest is p.ready.runs p.ready.quiet stands.lanes in
     let served = are_served s h.lanes is stands.lanes.count in
     let not_complete : Complete s (among h.lanes) → ⊥ = λ complete. p.due (done_is is p.ready.runs stands.lanes complete) in
     let frame : Frame s h.lanes plan.added plan.new works.new.lanes posts.added posts.new = record { planning = plan.part; kept = pieces_keep state moves (serial s) planned works.part.pieces works.new works.part.working; posting = posts.part } in
@@ -94,7 +94,7 @@ turn_by_phases p h stands = (phases_from p h stands).0
 pub ready_after : {M I : Type 0} {state : M → MediumState I} {moves : I → Step → Bool → I → Type 0} {s : Script} {old new : Machine M} {events : List Line} → Phases state moves s old new events → IsReady s new
 ready_after p =
     let turn = turn_by_phases p p.ready.stood p.ready.stands in
-    record { script = p.ready.script; runs = p.fit.own; place = p.fit.at; running = p.fit.running; mix = p.mix; idle = p.idle; undone = p.undone; stood = turn.new; stands = turn.stands }
+    record { script = p.ready.script; runs = p.fit.own; place = p.fit.at; running = p.fit.running; mix = p.mix; quiet = p.quiet; undone = p.undone; stood = turn.new; stands = turn.stands }
 
 -- and has less left
 pub less_after : {M I : Type 0} {state : M → MediumState I} {moves : I → Step → Bool → I → Type 0} {s : Script} {old new : Machine M} {events : List Line} → Phases state moves s old new events →
@@ -102,6 +102,6 @@ pub less_after : {M I : Type 0} {state : M → MediumState I} {moves : I → Ste
 less_after p =
     let is = p.ready.script in
     let from = phases_from p p.ready.stood p.ready.stands in
-    let before = work_is is p.ready.runs p.ready.idle p.ready.stands.lanes in
-    let after = work_is is p.fit.own p.idle from.0.stands.lanes in
+    let before = work_is is p.ready.runs p.ready.quiet p.ready.stands.lanes in
+    let after = work_is is p.fit.own p.quiet from.0.stands.lanes in
     omega (arith, before, after, from.1)

@@ -49,10 +49,10 @@ pub record HaveWindows (s : Script) (windows : List WindowState) : Type 0 where
   pub each : (k : ℕ) → 1 ≤ k → k ≤ s.head.lanes → IsWindowOf s k (window_of windows k)
 
 -- a lane's run at its start
-pub record IsNewRun (run : LaneRun) : Type 0 where
+pub record IsNewRun (s : Script) (run : LaneRun) : Type 0 where
   pub acts : run.acts_done ≡ 0
   pub results : run.results.items ≡ []
-  pub guest : run.guest ≡ record { lane = run.script.lane; sq = record { size = run.script.set.sq; head = 0; tail = 0 }; cq = record { size = run.script.set.cq; head = 0; phase = true }; waiting = 0 }
+  pub guest : run.guest ≡ record { lane = run.script.lane; sq = record { size = (set_of s.head run.script.lane).sq; head = 0; tail = 0 }; cq = record { size = (set_of s.head run.script.lane).cq; head = 0; phase = true }; waiting = 0 }
 
 abbrev pub ArePlanned : Script → PlanState → ControllerState → Type 0
 ArePlanned s plan controller = (k : ℕ) → 1 ≤ k → k ≤ s.head.lanes → IsPlanned s k plan (pair_of controller k)

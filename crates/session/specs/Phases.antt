@@ -13,7 +13,7 @@ use Rattle.nvm_model.specs.Run.{Here, IsPiece, PieceCalled, piece_line}
 use Rattle.session.specs.declared.lane_run.LaneRun.{LaneRun}
 use Rattle.session.specs.Lanes.{ArePlanned}
 use Rattle.nvm_model.specs.Told.{serial}
-use Rattle.session.specs.Place.{AreIdle, AreRunsOf, AreUndone, IsPlaceOf, PlaceState, StandsFor}
+use Rattle.session.specs.Place.{AreQuiet, AreRunsOf, AreUndone, IsPlaceOf, PlaceState, StandsFor}
 
 -- The phases of a turn: all lanes' plans, then their pieces, then their posts.
 
@@ -43,7 +43,7 @@ pub record HasPlan {M : Type 0} (s : Script) (runs : List LaneRun) (plan : PlanS
 -- before a turn: no command of any lane is under way, and the plan is empty
 pub record MayPlanAll {M : Type 0} (s : Script) (runs : List LaneRun) (plan : PlanState) (place : PlaceState M) : Type 0 where
   pub fit : Fit s runs place
-  pub idle : AreIdle place.controller.pairs
+  pub quiet : AreQuiet place.controller.pairs
   pub undone : AreUndone runs
   pub fits : FitPlan s plan
   pub empty : All (λ ps. ps ≡ []) plan.lanes

@@ -37,8 +37,8 @@ abbrev pub machine : {M : Type 0} → List LaneRun → Order → PlaceState M �
 machine runs order place = record { runs = runs; order = order; place = place }
 
 -- no command of any pair is under way
-abbrev pub AreIdle : List PairState → Type 0
-AreIdle pairs = All (λ (p : PairState). p.commands ≡ []) pairs
+abbrev pub AreQuiet : List PairState → Type 0
+AreQuiet pairs = All (λ (p : PairState). p.commands ≡ []) pairs
 
 -- a place that was opened for a script
 pub record IsPlaceOf {M : Type 0} (s : Script) (place : PlaceState M) : Type 0 where
@@ -51,7 +51,7 @@ pub record IsPlaceOf {M : Type 0} (s : Script) (place : PlaceState M) : Type 0 w
 pub record IsWaiting {M : Type 0} (s : Script) (place : PlaceState M) : Type 0 where
   pub at : IsPlaceOf s place
   pub waiting : place.controller.phase ≢ Running
-  pub idle : AreIdle place.controller.pairs
+  pub quiet : AreQuiet place.controller.pairs
   pub fed : place.controller.fed.lanes ≡ length place.controller.pairs
 
 -- the runs of its lanes
@@ -82,7 +82,7 @@ pub record IsReady {M : Type 0} (s : Script) (m : Machine M) : Type 0 where
   pub place : IsPlaceOf s m.place
   pub running : m.place.controller.phase ≡ Running
   pub mix : m.order.mix ≡ s.head.mix
-  pub idle : AreIdle m.place.controller.pairs
+  pub quiet : AreQuiet m.place.controller.pairs
   pub undone : AreUndone m.runs
   pub stood : Here M
   pub stands : StandsOn s m stood

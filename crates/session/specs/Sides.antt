@@ -157,7 +157,7 @@ pub record HasEnded (ending : Ending) (s : SessionState) : Type 0 where
 pub record IsNewSession (s : Script) (session : SessionState) : Type 0 where
   pub script : session.script ≡ s
   pub runs : AreRunsOf s session.runs
-  pub new : All IsNewRun session.runs
+  pub new : All (IsNewRun s) session.runs
   pub mix : session.order.mix ≡ s.head.mix
   pub words : session.order.words ≡ word_state s.head.mix 0
   pub ahead : session.ahead ≡ turns_ahead s.head.migrate

@@ -29,7 +29,7 @@ impl LaneRun {
         requires script { IsScript script.now }
         requires there { (1 ≤ lane) × (lane ≤ script.now.head.lanes) }
         ensures run { IfOk result (IsRunOf script.now lane) }
-        ensures new { IfOk result IsNewRun }
+        ensures new { IfOk result (IsNewRun script.now) }
     {
         let own = LaneScript::make(alloc, script, lane)?;
         let guest = Guest::new(lane, own.set);

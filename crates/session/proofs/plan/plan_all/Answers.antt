@@ -3,7 +3,7 @@ use Rattle.mig_base.proofs.ListLemmas.{element_at}
 use Rattle.controller.specs.Pair.{pair_of}
 use Rattle.session.specs.declared.lane_run.LaneRun.{LaneRun}
 use Rattle.turns.proofs.PartLaws.{none_yet, leads_none, all_led}
-use Rattle.session.proofs.AllLanesLemmas.{PlannedTo, all_lanes, idle_at, led_more, more_more, planned_more, put_here, run_here, seat_at, seat_put}
+use Rattle.session.proofs.AllLanesLemmas.{PlannedTo, all_lanes, quiet_at, led_more, more_more, planned_more, put_here, run_here, seat_at, seat_put}
 use Rattle.session.proofs.plan.plan_all.Goals as goal
 
 pub loop-at-init : goal.loop-at-init
@@ -13,7 +13,7 @@ loop-at-init g c = record {
   fits = c.requires.may.fits;
   each = λ k d low high. record {
     planned = λ none. absurd (omega (arith, low, none));
-    later = λ _. (idle_at c.args.place.now.controller c.requires.may.idle k, c.requires.may.empty (k - 1) [] (omega (arith, low, high, c.requires.may.fits.count)));
+    later = λ _. (quiet_at c.args.place.now.controller c.requires.may.quiet k, c.requires.may.empty (k - 1) [] (omega (arith, low, high, c.requires.may.fits.count)));
     undone = c.requires.may.undone (k - 1) d (omega (arith, low, high, c.requires.may.fit.own.count));
   };
   namespace = refl;

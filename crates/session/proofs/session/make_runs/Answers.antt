@@ -18,5 +18,5 @@ loop-at-preserved c =
       runs = subst (λ (all : List LaneRun). (i : ℕ) (d : LaneRun) → i < c.loop-at.at + 1 → IsRunOf s (i + 1) (slice_index_or all i d)) (sym c.push_reserved.ensures.items)
           (subst (λ (n : ℕ). (i : ℕ) (d : LaneRun) → i < n + 1 → IsRunOf s (i + 1) (slice_index_or (runs ++ run ∷ []) i d)) count
           (each_pushed (λ (i : ℕ). IsRunOf s (i + 1)) runs run (λ i d there. c.loop-at.invariant.runs i d (omega (arith, there, count))) (subst (λ (k : ℕ). IsRunOf s k run) lane c.in_ok-make.ensures.run)));
-      new = rw c.push_reserved.ensures.items (All-push IsNewRun runs run c.loop-at.invariant.new c.in_ok-make.ensures.new);
+      new = rw c.push_reserved.ensures.items (All-push (IsNewRun s) runs run c.loop-at.invariant.new c.in_ok-make.ensures.new);
     }

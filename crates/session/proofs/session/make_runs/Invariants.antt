@@ -8,5 +8,5 @@ invariant-loop-at l = record {
   count : length l.runs.items ≡ l.at;
   room : l.script.head.lanes ≤ vec_capacity l.runs;
   runs : (i : ℕ) (d : LaneRun) → i < l.at → IsRunOf l.script (i + 1) (slice_index_or l.runs.items i d);
-  new : All IsNewRun l.runs.items;
+  new : All (IsNewRun l.script) l.runs.items;
 }
