@@ -23,11 +23,11 @@ use Rattle.session.specs.Work.{IsSameButRun, MayPost}
 
 -- Lists with an element for each lane.
 
--- what holds of that of lane k holds at its place
+-- what holds of lane k's element holds at its place
 pub at_place : {X : Type 0} (P : X → Type 0) (xs : List X) (i k : ℕ) (d : X) → k ≡ i + 1 → P (get_or xs (k - 1) d) → P (get_or xs i d)
 at_place P xs i k d number holds = let here : k - 1 ≡ i = omega (arith, number) in subst (λ (j : ℕ). P (get_or xs j d)) here holds
 
--- what holds of that of each lane holds of all
+-- what holds of each lane's element holds of all
 pub all_lanes : {X : Type 0} {n : ℕ} (P : X → Type 0) (xs : List X) (d : X) → length xs ≡ n → ((k : ℕ) → 1 ≤ k → k ≤ n → P (get_or xs (k - 1) d)) → All P xs
 all_lanes P xs d count each = All-from_get_or P xs d (λ i there. at_place P xs i (i + 1) d refl (each (i + 1) (omega arith) (omega (arith, there, count))))
 
