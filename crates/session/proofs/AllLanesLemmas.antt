@@ -1,13 +1,14 @@
-use Rattle.std.proofs.Common.{Global, Vec, ◌≡◌, ℕ, ◌+◌, ◌-◌, ◌<◌, ◌≤◌, ⊎_elim, List, [], ◌++◌, get_or, length, refl, sym, ap, subst, ◌∙◌, append_assoc, get_or-set_same, length-set, set, arith}
-use Rattle.std.proofs.lemmas.Bool.{cases_eq}
-use Rattle.std.proofs.lemmas.List.{get_or-set_other}
+use Rattle.std.proofs.Common.{Global, Vec, ◌≡◌, ℕ, ◌+◌, ◌-◌, ◌<◌, ◌≤◌, ⊎_elim, All, List, [], ◌++◌, get_or, length, refl, sym, ap, subst, ◌∙◌, append_assoc, get_or-set_same, length-set, set, arith}
+use Rattle.std.proofs.lemmas.Bool.{cases_eq, cases_lt}
+use Rattle.std.proofs.lemmas.List.{get_or-set_other, get_or_past}
+use Rattle.std.proofs.lemmas.List.Elements.{All-from_get_or}
 use Rattle.nvm_model.specs.declared.line.Line.{Line}
 use Rattle.nvm_model.specs.declared.script.Script.{Script}
 use Rattle.nvm_model.specs.World.{Lane, new_lane}
 use Rattle.nvm_blocks.specs.Namespace.{NamespaceState}
 use Rattle.guest_ram.specs.Window.{WindowState}
 use Rattle.hall.specs.Plan.{PlanState, pieces_of}
-use Rattle.controller.specs.Pair.{ControllerState, IsSameButPair, PairState, pair_of, IsPlanned, PlansLane}
+use Rattle.controller.specs.Pair.{ControllerState, IsSameButPair, PairState, no_pair, pair_of, IsPlanned, PlansLane}
 use Rattle.controller.proofs.PairLemmas.{other_pair, other_pieces}
 use Rattle.turns.specs.Parts.{SoFar, Leads}
 use Rattle.turns.proofs.PartLaws.{one_did}
@@ -15,10 +16,25 @@ use Rattle.session.specs.declared.lane_run.LaneRun.{LaneRun}
 use Rattle.session.specs.LaneParts.{HasMore}
 use Rattle.session.specs.Lanes.{IsRunOf, IsWindowOf, Stands, window_of}
 use Rattle.session.specs.Phases.{Fit}
-use Rattle.session.specs.Place.{AreRunsOf, PlaceState, StandsFor}
+use Rattle.session.specs.Place.{AreQuiet, AreRunsOf, PlaceState, StandsFor}
 use Rattle.session.specs.Seats.{HasSeat, IsSameButSeat, IsSameButWindow, Sits}
 use Rattle.session.specs.Shelves.{IsNamespaceOf}
 use Rattle.session.specs.Work.{IsSameButRun, MayPost}
+
+-- Lists with an element for each lane.
+
+-- what holds of lane k's element holds at its place
+pub at_place : {X : Type 0} (P : X → Type 0) (xs : List X) (i k : ℕ) (d : X) → k ≡ i + 1 → P (get_or xs (k - 1) d) → P (get_or xs i d)
+at_place P xs i k d number holds = let here : k - 1 ≡ i = omega (arith, number) in subst (λ (j : ℕ). P (get_or xs j d)) here holds
+
+-- what holds of each lane's element holds of all
+pub all_lanes : {X : Type 0} {n : ℕ} (P : X → Type 0) (xs : List X) (d : X) → length xs ≡ n → ((k : ℕ) → 1 ≤ k → k ≤ n → P (get_or xs (k - 1) d)) → All P xs
+all_lanes P xs d count each = All-from_get_or P xs d (λ i there. at_place P xs i (i + 1) d refl (each (i + 1) (omega arith) (omega (arith, there, count))))
+
+-- of quiet pairs none has a command, whatever its number
+pub quiet_at : (c : ControllerState) → AreQuiet c.pairs → (k : ℕ) → (pair_of c k).commands ≡ []
+quiet_at c quiet k = ⊎_elim (λ (there : k - 1 < length c.pairs). quiet (k - 1) no_pair there)
+    (λ (past : length c.pairs ≤ k - 1). ap (λ (p : PairState). p.commands) (get_or_past c.pairs (k - 1) no_pair past)) (cases_lt (k - 1) (length c.pairs))
 
 -- A part of a turn, lane after lane.
 
@@ -142,9 +158,7 @@ pub led_more : {M : Type 0} {s : Script} {Part : ℕ → Lane → List Line → 
 led_more {s = s} {Part} {runs} {lanes} {a} {b} {c} {i} {k} old new old_run run same there count run_is led step =
     let d = new_lane 0 in
     let l = get_or led.new i d in
-    let here : k - 1 ≡ i = omega (arith, same.number) in
-    let own : Stands s k (get_or runs (k - 1) old_run) (pair_of old.controller k) (window_of old.windows k) l =
-    subst (λ (j : ℕ). Stands s k (get_or runs (k - 1) old_run) (pair_of old.controller k) (window_of old.windows k) (get_or led.new j d)) here (led.stands.each k old_run d (omega (arith, same.number)) (omega (arith, same.number, there))) in
+    let own = at_place (λ (x : Lane). Sits s k (get_or runs (k - 1) old_run) old x) led.new i k d same.number (led.stands.each k old_run d (omega (arith, same.number)) (omega (arith, same.number, there))) in
     let to = step l (run_here runs (λ (r : LaneRun). Sits s k r old l) i k old_run same.number run_is own) in
     record {
       new = set led.new i to.new;

@@ -1,4 +1,4 @@
-use Rattle.std.proofs.Common.{◌≡◌, ℕ, ◌+◌, ◌-◌, ◌<◌, ◌≤◌, List, length, map, sum, take, get_or, sym, ap, subst, ◌∙◌, arith}
+use Rattle.std.proofs.Common.{◌≡◌, ℕ, ◌+◌, ◌-◌, ◌<◌, ◌≤◌, List, length, map, sum, take, get_or, refl, sym, ap, ◌∙◌, arith}
 use Rattle.std.proofs.lemmas.List.{length-map, ext_get_or, get_or-take, get_or-map as get_or_map}
 use Rattle.std.proofs.lemmas.List.Concat.{length-flat_map}
 use Rattle.std.proofs.lemmas.List.Sums.{sum-map}
@@ -7,19 +7,17 @@ use Rattle.guest_ram.specs.Ram.{all_pages, shape}
 use Rattle.guest_ram.specs.Window.{WindowState, no_window}
 use Rattle.nvm_model.specs.declared.script.Script.{Script}
 use Rattle.nvm_model.specs.declared.script.LaneSet.{LaneSet}
-use Rattle.nvm_model.specs.ScriptText.{IsHead}
-use Rattle.nvm_model.specs.World.{window_pages}
-use Rattle.nvm_model.specs.ScriptText.{IsScript}
-use Rattle.nvm_model.specs.World.{Lane, new_lane}
+use Rattle.nvm_model.specs.ScriptText.{IsHead, IsScript}
+use Rattle.nvm_model.specs.World.{Lane, new_lane, window_pages}
 use Rattle.controller.specs.Pair.{ControllerState}
 use Rattle.nvm_model.specs.Run.{memory_of}
 use Rattle.session.specs.declared.lane_run.LaneRun.{LaneRun}
 use Rattle.session.specs.Lanes.{HaveWindows, IsWindowOf}
-use Rattle.session.specs.Place.{AreRunsOf, StandsFor}
-use Rattle.session.specs.Place.{pages_of}
+use Rattle.session.specs.Place.{AreRunsOf, StandsFor, pages_of}
 use Rattle.turns.proofs.PartLaws.{windows_from}
 use Rattle.nvm_ring.proofs.QueueLemmas.{window_whole}
 use Rattle.mig_base.proofs.ListLemmas.{element_at}
+use Rattle.session.proofs.AllLanesLemmas.{at_place}
 use Rattle.turns.proofs.ScriptLaws.{count_sets}
 
 -- The guests' memory, page by page.
@@ -35,10 +33,8 @@ shape_at : (windows : List WindowState) (i : ℕ) → get_or (shape windows) i (
 shape_at windows i = get_or-map size_of windows i no_window
 
 -- the window at a place is that of the lane with the next number
-at_place : {s : Script} {windows : List WindowState} → HaveWindows s windows → (i : ℕ) → i < s.head.lanes → IsWindowOf s (i + 1) (get_or windows i no_window)
-at_place {s} {windows} have i there =
-    let place : i + 1 - 1 ≡ i = omega arith in
-    subst (λ (j : ℕ). IsWindowOf s (i + 1) (get_or windows j no_window)) place (have.each (i + 1) (omega arith) (omega (arith, there)))
+window_at : {s : Script} {windows : List WindowState} → HaveWindows s windows → (i : ℕ) → i < s.head.lanes → IsWindowOf s (i + 1) (get_or windows i no_window)
+window_at {s} {windows} have i there = at_place (IsWindowOf s (i + 1)) windows i (i + 1) no_window refl (have.each (i + 1) (omega arith) (omega (arith, there)))
 
 -- two memories of a script have one shape
 pub one_shape : {s : Script} {a b : List WindowState} → HaveWindows s a → HaveWindows s b → shape a ≡ shape b
@@ -47,8 +43,8 @@ one_shape {s} {a} {b} have other =
     let as_long : length (shape b) ≡ s.head.lanes = length-map b size_of ∙ other.count in
     ext_get_or (0, 0) (shape a) (shape b) (long ∙ sym as_long) (λ i inside.
     let there : i < s.head.lanes = omega (arith, inside, long) in
-    let v = at_place have i there in
-    let w = at_place other i there in
+    let v = window_at have i there in
+    let w = window_at other i there in
     shape_at a i ∙ ap (λ (k : ℕ). (k, length (get_or a i no_window).pages)) (v.lane ∙ sym w.lane)
     ∙ ap (λ (n : ℕ). ((get_or b i no_window).lane, n)) (v.size ∙ sym w.size) ∙ sym (shape_at b i))
 
@@ -65,7 +61,7 @@ have_pages {s} {windows} head have =
     ext_get_or 0 (map many windows) (map wanted sets) (long ∙ sym (length-map sets wanted ∙ as_long)) (λ i inside.
     let there : i < s.head.lanes = omega (arith, inside, long) in
     let place : i + 1 - 1 ≡ i = omega arith in
-    get_or-map many windows i no_window ∙ (at_place have i there).size ∙ ap (λ (j : ℕ). wanted (get_or s.head.sets j none)) place ∙ ap wanted (sym (get_or-take s.head.lanes s.head.sets i none there))
+    get_or-map many windows i no_window ∙ (window_at have i there).size ∙ ap (λ (j : ℕ). wanted (get_or s.head.sets j none)) place ∙ ap wanted (sym (get_or-take s.head.lanes s.head.sets i none there))
     ∙ sym (get_or_map wanted sets i none 0 (omega (arith, there, as_long)))) in
     length-flat_map (λ (w : WindowState). w.pages) windows ∙ sym (sum-map many windows) ∙ ap sum same
 

@@ -37,7 +37,7 @@ use Rattle.session.specs.Port.{DestCall, Ends, dest_of_place, moves_place, moves
 use Rattle.session.specs.Sides.{move_set}
 use Rattle.guest_ram.proofs.Copied.{same_memory}
 use Rattle.session.proofs.MemoryLemmas.{have_pages, one_shape}
-use Rattle.session.proofs.RestLemmas.{all_quiet, some_run}
+use Rattle.session.proofs.RestLemmas.{some_run}
 use Rattle.session.proofs.PortLemmas.{names_kept}
 use Rattle.session.proofs.MoveCallLemmas.{IsShelved, PlaceGoes, from_all, to_all}
 
@@ -172,7 +172,7 @@ module _ {M I : Type 0} (state : M → MediumState I) {s : Script} {m : Machine 
         from_pages = have_pages ready.script.head ready.place.windows ∙ pages;
         to_pages = have_pages ready.script.head waits.at.windows ∙ pages;
         calls = omega arith;
-        from_quiet = all_quiet ready.quiet ready.place.pairs;
+        from_quiet = ready.quiet;
         to_quiet = waits.quiet;
       }
 

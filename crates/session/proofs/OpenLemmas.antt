@@ -1,6 +1,7 @@
-use Rattle.std.proofs.Common.{◌≡◌, ℕ, ◌+◌, ◌-◌, ◌≤◌, List, length, map, replicate, slice_index_or, take, sym, ap, subst, ◌∙◌, arith, inr, false, Option, Some, None, refl}
+use Rattle.std.proofs.Common.{◌≡◌, ℕ, ◌+◌, ◌-◌, ◌≤◌, All, List, [], length, map, replicate, slice_index_or, take, sym, ap, subst, ◌∙◌, arith, inr, false, Option, Some, None, refl}
 use Rattle.std.proofs.Math.Nat.{zero-div, zero-mod}
 use Rattle.std.proofs.lemmas.List.{get_or-map, length-map, length-replicate}
+use Rattle.std.proofs.lemmas.List.Elements.{All-map}
 use Rattle.nvm_model.specs.declared.script.LaneSet.{LaneSet}
 use Rattle.nvm_model.specs.declared.script.Script.{Script}
 use Rattle.nvm_model.specs.ScriptText.{IsScript, IsTurn, IsSet}
@@ -10,21 +11,20 @@ use Rattle.controller.specs.declared.controller.Phase.TheVariants.{Loading, Runn
 use Rattle.controller.specs.Pair.{ControllerState, IsMade, PairState, new_pair, no_pair, pair_of, outcomes_of, worked}
 use Rattle.nvm_model.specs.Run.{Here, start_lanes}
 use Rattle.session.specs.Opened.{IsNewPlace, Opens, memory_made}
-use Rattle.session.specs.Place.{AreQuiet, IsPlaceOf, IsWaiting, PlaceState, StandsFor, StandsOn}
+use Rattle.session.specs.Place.{AreQuiet, AreRunsOf, IsPlaceOf, IsWaiting, PlaceState, StandsFor, StandsOn}
 use Rattle.nvm_model.specs.Memory.{zero_page}
 use Rattle.nvm_ring.specs.Queues.{HasWindow}
 use Rattle.guest_ram.specs.Window.{WindowState}
 use Rattle.lanes.proofs.StartLemmas.{new_stands as guest_starts}
 use Rattle.lanes.specs.Guest.{GuestState}
 use Rattle.session.specs.declared.lane_run.LaneRun.{LaneRun}
-use Rattle.session.specs.Lanes.{HaveWindows, IsNewRun, Stands, window_of}
+use Rattle.session.specs.Lanes.{HaveWindows, IsNewRun, IsRunOf, Stands, window_of}
 use Rattle.turns.proofs.ScriptLaws.{set_fits, count_sets, set_at, start_at, start_count}
 use Rattle.guest_ram.proofs.Made.{made_at, made_count}
 use Rattle.turns.specs.Ahead.{IsAhead, turns_ahead}
 use Rattle.session.specs.Sides.{IsNewSession, SessionState, machine_of}
 use Rattle.ctl_state.specs.Parts.{PartsState}
 use Rattle.session.proofs.MemoryLemmas.{whole_memory}
-use Rattle.session.proofs.RestLemmas.{all_quiet}
 
 -- A run at its start.
 
@@ -51,17 +51,17 @@ have_made {s} {windows} is made = record {
 }
 
 -- a new run with a new pair over a zeroed window stands for a new lane
-new_lane_stands : {s : Script} {k : ℕ} {run : LaneRun} {pair : PairState} {window : WindowState} → IsSet (set_of s.head k) → IsNewRun s k run → pair ≡ new_pair s.head.burst (set_of s.head k) →
+new_lane_stands : {s : Script} {k : ℕ} {run : LaneRun} {pair : PairState} {window : WindowState} → IsSet (set_of s.head k) → IsRunOf s k run → IsNewRun s run → pair ≡ new_pair s.head.burst (set_of s.head k) →
     window ≡ record { lane = k; pages = replicate ((set_of s.head k).pages + 2) zero_page } → Stands s k run pair window (new_lane (set_of s.head k).pages)
-new_lane_stands {s} {k} {run} {pair} {window} set new pair_is window_is =
+new_lane_stands {s} {k} {run} {pair} {window} set is new pair_is window_is =
     let sizes = set_of s.head k in
-    let lane : run.guest.lane ≡ k = ap (λ (g : GuestState). g.lane) new.guest in
-    let own : window ≡ record { lane = run.guest.lane; pages = replicate (sizes.pages + 2) zero_page } = window_is ∙ ap (λ (j : ℕ). record { lane = j; pages = replicate (sizes.pages + 2) zero_page }) (sym lane) in
-    let guest = guest_starts set own (ap (λ (g : GuestState). g.waiting) new.guest) (ap (λ (g : GuestState). g.sq) new.guest) (ap (λ (g : GuestState). g.cq) new.guest) in
+    let same : set_of s.head run.script.lane ≡ sizes = ap (set_of s.head) is.lane in
+    let own : window ≡ record { lane = run.guest.lane; pages = replicate (sizes.pages + 2) zero_page } = window_is ∙ ap (λ (j : ℕ). record { lane = j; pages = replicate (sizes.pages + 2) zero_page }) (sym is.guest) in
+    let guest = guest_starts set own (ap (λ (g : GuestState). g.waiting) new.guest) (rw (← same) (ap (λ (g : GuestState). g.sq) new.guest)) (rw (← same) (ap (λ (g : GuestState). g.cq) new.guest)) in
     record {
-      number = guest.number ∙ lane;
-      guest = lane;
-      window_is = subst (λ (j : ℕ). HasWindow j sizes window.pages (new_lane sizes.pages)) lane guest.window_is;
+      number = guest.number ∙ is.guest;
+      guest = is.guest;
+      window_is = subst (λ (j : ℕ). HasWindow j sizes window.pages (new_lane sizes.pages)) is.guest guest.window_is;
       ordered = guest.ordered;
       guest_ends = guest.ends;
       ends = record {
@@ -71,20 +71,6 @@ new_lane_stands {s} {k} {run} {pair} {window} set new pair_is window_is =
       acts = sym new.acts;
       running = ap (λ cs. worked s.head.shelf cs (outcomes_of run.results.items)) (sym (ap (λ (p : PairState). p.commands) pair_is));
     }
-
--- new runs and a new controller over zeroed windows stand for the lanes at the start
-pub new_stands : {s : Script} {runs : List LaneRun} {controller : ControllerState} {windows : List WindowState} → IsScript s →
-    ((k : ℕ) (d : LaneRun) → 1 ≤ k → k ≤ s.head.lanes → IsNewRun s k (slice_index_or runs (k - 1) d)) →
-    ((k : ℕ) → 1 ≤ k → k ≤ s.head.lanes → pair_of controller k ≡ new_pair s.head.burst (set_of s.head k)) →
-    windows ≡ memory_made s.head → StandsFor s runs controller windows (start_lanes s) × AreQuiet s runs controller
-new_stands {s} {runs} {controller} {windows} is new pairs made = (
-  record {
-    count = start_count s is.head;
-    each = λ k d e first few. subst (λ (l : Lane). Stands s k (slice_index_or runs (k - 1) d) (pair_of controller k) (window_of windows k) l) (sym (start_at s k e is.head first few))
-        (new_lane_stands (set_fits s.head k is.head first few) (new k d first few) (pairs k first few) (made_windows s windows is made k first few));
-  },
-  record { commands = λ k first few. ap (λ (p : PairState). p.commands) (pairs k first few); results = λ k d first few. (new k d first few).results },
-)
 
 -- A session with two places as they are opened.
 
@@ -104,22 +90,27 @@ is_place {M} {s} {place = place} is new = record {
   burst = new.controller.burst_is;
 }
 
--- its runs stand for the lanes at the start, with either place
-starts : {M : Type 0} {session : SessionState} {phase : Phase} {media : List M} {place : PlaceState M} → IsScript session.script → IsNewSession session.script session → IsNewPlace phase session.script.head media place →
-    StandsFor session.script session.runs place.controller place.windows (start_lanes session.script) × AreQuiet session.script session.runs place.controller
-starts is session new = new_stands is session.new (new_pairs is new.controller) new.windows
+-- no command of a new controller is under way
+quiet_made : {phase : Phase} {sets : List LaneSet} {cells burst : ℕ} {controller : ControllerState} → IsMade phase sets cells burst controller → AreQuiet controller.pairs
+quiet_made {sets = sets} {burst = burst} made = subst AreQuiet (sym made.pairs) (All-map (λ (p : PairState). p.commands ≡ []) (new_pair burst) sets (λ i d there. refl))
+
+-- new runs stand for the lanes at the start, with either place
+starts : {M : Type 0} {s : Script} {runs : List LaneRun} {phase : Phase} {media : List M} {place : PlaceState M} → IsScript s → AreRunsOf s runs → All (IsNewRun s) runs → IsNewPlace phase s.head media place →
+    StandsFor s runs place.controller place.windows (start_lanes s)
+starts {s = s} {runs} {place = place} is are new at = record {
+  count = start_count s is.head;
+  each = λ k d e first few. subst (λ (l : Lane). Stands s k (slice_index_or runs (k - 1) d) (pair_of place.controller k) (window_of place.windows k) l) (sym (start_at s k e is.head first few))
+      (new_lane_stands (set_fits s.head k is.head first few) (are.each k d first few) (new (k - 1) d (omega (arith, first, few, are.count))) (new_pairs is at.controller k first few) (made_windows s place.windows is at.windows k first few));
+}
 
 -- a place whose controller is blank waits
-is_waiting : {M : Type 0} {session : SessionState} {media : List M} {place : PlaceState M} → IsScript session.script → IsNewSession session.script session → IsNewPlace Loading session.script.head media place → IsWaiting session.script place
-is_waiting {session = session} is new at =
-    let s = session.script in
-    let place = is_place is at in
-    record {
-      at = place;
-      waiting = λ running. absurd cc (at.controller.phase_is, running);
-      quiet = all_quiet (starts is new at).1 place.pairs;
-      fed = ap (λ (f : PartsState). f.lanes) at.controller.none_fed ∙ sym (ap (λ (ps : List PairState). length ps) at.controller.pairs ∙ length-map (take s.head.lanes s.head.sets) (new_pair s.head.burst));
-    }
+is_waiting : {M : Type 0} {s : Script} {media : List M} {place : PlaceState M} → IsScript s → IsNewPlace Loading s.head media place → IsWaiting s place
+is_waiting {s = s} is at = record {
+  at = is_place is at;
+  waiting = λ running. absurd cc (at.controller.phase_is, running);
+  quiet = quiet_made at.controller;
+  fed = ap (λ (f : PartsState). f.lanes) at.controller.none_fed ∙ sym (ap (λ (ps : List PairState). length ps) at.controller.pairs ∙ length-map (take s.head.lanes s.head.sets) (new_pair s.head.burst));
+}
 
 -- the turns that come before a migration that is asked for
 ahead_is : (migrate : Option ℕ) → IsTurn migrate → IsAhead false migrate 0 (turns_ahead migrate)
@@ -131,20 +122,20 @@ pub opens : {M : Type 0} {session : SessionState} {from_media to_media : List M}
 opens {M} {session} {from_media} {to_media} {from} {to} is new source destination =
     let s = session.script in
     let here : Here M = record { lanes = start_lanes s; media = from_media; drawn = 0 } in
-    let lanes = starts is new source in
-    let stands : StandsOn s (machine_of session from) here = record { lanes = lanes.0; media = sym source.media_are; words = inr (rw new.mix new.words) } in
+    let lanes = starts is new.runs new.new source in
+    let stands : StandsOn s (machine_of session from) here = record { lanes = lanes; media = sym source.media_are; words = inr (rw new.mix new.words) } in
     record {
-      ready = record { script = is; runs = new.runs; place = is_place is source; running = source.controller.phase_is; mix = new.mix; quiet = lanes.1; stood = here; stands = stands };
-      waits = is_waiting is new destination;
+      ready = record { script = is; runs = new.runs; place = is_place is source; running = source.controller.phase_is; mix = new.mix; quiet = quiet_made source.controller; undone = λ i d there. (new.new i d there).results; stood = here; stands = stands };
+      waits = is_waiting is destination;
       stands = λ out. record {
         task = refl;
         phase = sym new.phase;
         side = sym new.side;
         ahead = rw new.ahead (ahead_is s.head.migrate is.head.migrate);
         lanes = stands;
-        memory = sym (whole_memory is new.runs (have_made is source.windows) lanes.0);
+        memory = sym (whole_memory is new.runs (have_made is source.windows) lanes);
         other = sym destination.media_are;
-        left = sym (whole_memory is new.runs (have_made is destination.windows) (starts is new destination).0);
+        left = sym (whole_memory is new.runs (have_made is destination.windows) (starts is new.runs new.new destination));
         out = refl;
       };
     }

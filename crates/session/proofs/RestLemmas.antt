@@ -1,6 +1,4 @@
-use Rattle.std.proofs.Common.{◌≡◌, ℕ, ◌+◌, ◌-◌, ◌<◌, ◌≤◌, List, [], ◌∷◌, length, slice_index_or, refl, sym, ap, subst, ◌∙◌, arith, ◌↔◌}
-use Rattle.std.specs.List.{All}
-use Rattle.std.proofs.lemmas.List.Elements.{All-from_get_or}
+use Rattle.std.proofs.Common.{◌≡◌, ℕ, ◌+◌, ◌-◌, ◌<◌, ◌≤◌, All, List, [], ◌∷◌, length, slice_index_or, refl, sym, ap, ◌∙◌, arith, ◌↔◌}
 use Rattle.nvm_model.specs.declared.script.Script.{Script}
 use Rattle.nvm_model.specs.History.{Complete, IsLaneComplete}
 use Rattle.nvm_model.specs.Ring.{places_between}
@@ -10,13 +8,14 @@ use Rattle.nvm_model.proofs.PlaceLemmas.{places_between-mods}
 use Rattle.guest_ram.specs.Window.{WindowState}
 use Rattle.mig_base.proofs.ListLemmas.{element_at, empty_list}
 use Rattle.nvm_ring.proofs.QueueLemmas.{last_told, told_few}
-use Rattle.controller.specs.Pair.{ControllerState, PairState, no_pair, outcomes_of, pair_of, worked}
+use Rattle.controller.specs.Pair.{ControllerState, PairState, outcomes_of, pair_of, worked}
 use Rattle.turns.specs.Frame.{AreAtRest, AreServed, IsAtRest, total_left, work_left}
 use Rattle.nvm_model.specs.Run.{among}
 use Rattle.turns.proofs.PartLaws.{at_rest_from, first_of, later_of, served_from}
 use Rattle.session.specs.declared.lane_run.LaneRun.{LaneRun}
-use Rattle.session.specs.Lanes.{IsRunOf, Stands}
-use Rattle.session.specs.Place.{AreAllDone, AreQuiet, AreRunsOf, StandsFor, run_work, total_work}
+use Rattle.session.specs.Lanes.{IsComplete, IsRunOf, Stands}
+use Rattle.session.specs.Place.{AreQuiet, AreRunsOf, StandsFor, run_work, total_work}
+use Rattle.session.proofs.AllLanesLemmas.{all_lanes, quiet_at}
 use Rattle.turns.proofs.ScriptLaws.{set_fits}
 
 -- What is known of the lanes for which runs stand between two turns.
@@ -24,12 +23,6 @@ use Rattle.turns.proofs.ScriptLaws.{set_fits}
 -- one of the runs
 pub some_run : {s : Script} {runs : List LaneRun} → IsScript s → AreRunsOf s runs → LaneRun
 some_run {runs = runs} is are = element_at runs 0 (omega (arith, are.count, is.head.lanes))
-
--- no command of any pair is under way
-pub all_quiet : {s : Script} {runs : List LaneRun} {c : ControllerState} → AreQuiet s runs c → length c.pairs ≡ s.head.lanes → All (λ (p : PairState). p.commands ≡ []) c.pairs
-all_quiet {c = c} quiet count = All-from_get_or (λ (p : PairState). p.commands ≡ []) c.pairs no_pair (λ i there.
-    let place : i + 1 - 1 ≡ i = omega arith in
-    subst (λ (j : ℕ). (slice_index_or c.pairs j no_pair).commands ≡ []) place (quiet.commands (i + 1) (omega arith) (omega (arith, there, count))))
 
 -- One lane.
 
@@ -44,7 +37,7 @@ lane_rests {s} {k} {run} {lane = lane} is stands between =
 
 -- it has done its acts, and waits for nothing, where the lane is complete
 lane_completes : {s : Script} {k : ℕ} {run : LaneRun} {pair : PairState} {window : WindowState} {lane : Lane} → IsRunOf s k run → Stands s k run pair window lane →
-    (run.acts_done ≡ length run.script.acts.items) × (run.guest.waiting ≡ 0) ↔ IsLaneComplete s k lane
+    IsComplete run ↔ IsLaneComplete s k lane
 lane_completes {s} {k} {run} {lane = lane} is stands =
     let o = stands.ordered in
     let waits = stands.guest_ends.waits in
@@ -92,30 +85,30 @@ work_from s k (run ∷ runs) controller (lane ∷ lanes) same each =
     omega (arith, first, others)
 
 -- lanes between turns are at rest
-pub at_rest : {s : Script} {runs : List LaneRun} {controller : ControllerState} {windows : List WindowState} {lanes : List Lane} → IsScript s → AreRunsOf s runs → AreQuiet s runs controller → StandsFor s runs controller windows lanes → AreAtRest s 1 lanes
-at_rest {s} {lanes = lanes} is are quiet stands = at_rest_from s 1 lanes (λ k first there.
+pub at_rest : {s : Script} {runs : List LaneRun} {controller : ControllerState} {windows : List WindowState} {lanes : List Lane} → IsScript s → AreRunsOf s runs → AreQuiet controller.pairs → StandsFor s runs controller windows lanes → AreAtRest s 1 lanes
+at_rest {s} {controller = controller} {lanes = lanes} is are quiet stands = at_rest_from s 1 lanes (λ k first there.
     let few : k ≤ s.head.lanes = omega (arith, there, stands.count) in
     let d = some_run is are in
-    lane_rests (are.each k d first few) (stands.each k d (new_lane 0) first few) (quiet.commands k first few))
+    lane_rests (are.each k d first few) (stands.each k d (new_lane 0) first few) (quiet_at controller quiet k))
 
 pub are_served : (s : Script) (lanes : List Lane) → IsScript s → length lanes ≡ s.head.lanes → AreServed s 1 lanes
 are_served s lanes is count = served_from s 1 lanes (λ k first there. set_fits s.head k is.head first (omega (arith, there, count)))
 
 -- where all is done the lanes are complete
-pub complete_is : {s : Script} {runs : List LaneRun} {controller : ControllerState} {windows : List WindowState} {lanes : List Lane} → IsScript s → AreRunsOf s runs → StandsFor s runs controller windows lanes → AreAllDone s runs → Complete s (among lanes)
+pub complete_is : {s : Script} {runs : List LaneRun} {controller : ControllerState} {windows : List WindowState} {lanes : List Lane} → IsScript s → AreRunsOf s runs → StandsFor s runs controller windows lanes → All IsComplete runs → Complete s (among lanes)
 complete_is {s} is are stands done k there =
     let few : k ≤ s.head.lanes = omega (arith, there.1, stands.count) in
     let d = some_run is are in
-    (lane_completes (are.each k d there.0 few) (stands.each k d (new_lane 0) there.0 few)).0 (done k d there.0 few)
+    (lane_completes (are.each k d there.0 few) (stands.each k d (new_lane 0) there.0 few)).0 (done (k - 1) d (omega (arith, there.0, few, are.count)))
 
 -- and the other way round
-pub done_is : {s : Script} {runs : List LaneRun} {controller : ControllerState} {windows : List WindowState} {lanes : List Lane} → AreRunsOf s runs → StandsFor s runs controller windows lanes → Complete s (among lanes) → AreAllDone s runs
-done_is {lanes = lanes} are stands complete k d first few =
-    let there : k ≤ length lanes = omega (arith, few, stands.count) in
-    (lane_completes (are.each k d first few) (stands.each k d (new_lane 0) first few)).1 (complete k (first, there))
+pub done_is : {s : Script} {runs : List LaneRun} {controller : ControllerState} {windows : List WindowState} {lanes : List Lane} → IsScript s → AreRunsOf s runs → StandsFor s runs controller windows lanes → Complete s (among lanes) → All IsComplete runs
+done_is {runs = runs} is are stands complete =
+    let d = some_run is are in
+    all_lanes IsComplete runs d are.count (λ k first few. (lane_completes (are.each k d first few) (stands.each k d (new_lane 0) first few)).1 (complete k (first, omega (arith, few, stands.count))))
 
 -- what is left is what the lanes have left
-pub work_is : {s : Script} {runs : List LaneRun} {controller : ControllerState} {windows : List WindowState} {lanes : List Lane} → IsScript s → AreRunsOf s runs → AreQuiet s runs controller → StandsFor s runs controller windows lanes → total_work 1 runs controller ≡ total_left s 1 lanes
+pub work_is : {s : Script} {runs : List LaneRun} {controller : ControllerState} {windows : List WindowState} {lanes : List Lane} → IsScript s → AreRunsOf s runs → AreQuiet controller.pairs → StandsFor s runs controller windows lanes → total_work 1 runs controller ≡ total_left s 1 lanes
 work_is {s} {runs} {controller} {lanes = lanes} is are quiet stands = work_from s 1 runs controller lanes (are.count ∙ sym stands.count) (λ k d first there.
     let few : k ≤ s.head.lanes = omega (arith, there, stands.count) in
-    lane_work (are.each k d first few) (set_fits s.head k is.head first few) (stands.each k d (new_lane 0) first few) (quiet.commands k first few))
+    lane_work (are.each k d first few) (set_fits s.head k is.head first few) (stands.each k d (new_lane 0) first few) (quiet_at controller quiet k))

@@ -1,4 +1,4 @@
-use Rattle.std.proofs.Common.{◌≡◌, ℕ, ◌+◌, ◌-◌, ◌≤◌, slice_index_or, map, Bool, true, false, None, Result, Ok, Err, List, [], ◌∷◌, length, refl, sym, ap, subst, ◌∙◌, arith, ◌↔◌}
+use Rattle.std.proofs.Common.{◌≡◌, ℕ, ◌+◌, ◌-◌, ◌≤◌, All, slice_index_or, map, Bool, true, false, None, Result, Ok, Err, List, [], ◌∷◌, length, refl, sym, ap, subst, ◌∙◌, arith, ◌↔◌}
 use Rattle.std.specs.Prelude.{IfOk, IsTrue, is_err}
 use Rattle.std.proofs.Math.ListN.{get_or-map}
 use Rattle.std.proofs.lemmas.List.{length-map}
@@ -32,12 +32,13 @@ use Rattle.session.specs.declared.lane_run.LaneRun.{LaneRun}
 use Rattle.session.specs.declared.order.Order.{Order}
 use Rattle.manager.specs.declared.manager.Pause.{Pause}
 use Rattle.session.specs.Moves.{Moves, Stays, Tries, both}
-use Rattle.session.specs.Lanes.{HaveWindows}
+use Rattle.session.specs.Lanes.{HaveWindows, IsComplete}
 use Rattle.nvm_model.specs.Told.{serial}
-use Rattle.session.specs.Place.{IsPlaceOf, AreAllDone, DoesTurn, IsReady, IsWaiting, PlaceState, StandsFor, StandsOn, machine, pages_of}
+use Rattle.session.specs.Place.{IsPlaceOf, AreQuiet, DoesTurn, IsReady, IsWaiting, PlaceState, StandsFor, StandsOn, machine, pages_of}
 use Rattle.session.specs.Sides.{Goes, IsMoveDue, IsOnward, IsRunning, SessionState, Sides, at_side, by_side, machine_of, sides}
 use Rattle.session.proofs.MemoryLemmas.{whole_memory}
 use Rattle.session.proofs.ShelvesLemmas.{same_namespace}
+use Rattle.session.proofs.AllLanesLemmas.{all_lanes, quiet_at}
 use Rattle.session.proofs.RestLemmas.{complete_is, done_is}
 use Rattle.turns.proofs.CopyLaws.{calls_along}
 use Rattle.manager.proofs.StateLemmas.{rings_at}
@@ -68,11 +69,11 @@ not_true is true_is = absurd cc
 
 -- All is done exactly where all lanes are complete.
 
-all_complete : {M : Type 0} {at : PlaceState M} (s : SessionState) (t : Snapshot M) → t.task ≡ serial s.script → IsReady s.script (machine_of s at) → StandsOn s.script (machine_of s at) (here t) → AreAllDone s.script s.runs → AreComplete t
+all_complete : {M : Type 0} {at : PlaceState M} (s : SessionState) (t : Snapshot M) → t.task ≡ serial s.script → IsReady s.script (machine_of s at) → StandsOn s.script (machine_of s at) (here t) → All IsComplete s.runs → AreComplete t
 all_complete s t task ready stands done = subst (λ (k : Task). Complete k.script (among t.lanes)) (sym task) (complete_is ready.script ready.runs stands.lanes done)
 
-all_done : {M : Type 0} {at : PlaceState M} (s : SessionState) (t : Snapshot M) → t.task ≡ serial s.script → IsReady s.script (machine_of s at) → StandsOn s.script (machine_of s at) (here t) → AreComplete t → AreAllDone s.script s.runs
-all_done s t task ready stands complete = done_is ready.runs stands.lanes (subst (λ (k : Task). Complete k.script (among t.lanes)) task complete)
+all_done : {M : Type 0} {at : PlaceState M} (s : SessionState) (t : Snapshot M) → t.task ≡ serial s.script → IsReady s.script (machine_of s at) → StandsOn s.script (machine_of s at) (here t) → AreComplete t → All IsComplete s.runs
+all_done s t task ready stands complete = done_is ready.script ready.runs stands.lanes (subst (λ (k : Task). Complete k.script (among t.lanes)) task complete)
 
 -- The stages.
 
@@ -95,7 +96,7 @@ goes_begin {s = s} {sent = sent} was ready due written t stands = record {
 }
 
 pub goes_end : {M I T E : Type 0} {state : M → MediumState I} {moves : I → Step → Bool → I → Type 0} {s : SessionState} {at other : PlaceState M} {out sent : SinkState} {result : Result T E} →
-    s.phase ≡ Running → IsReady s.script (machine_of s at) → AreAllDone s.script s.runs → (IsMoveDue s → ⊥) → Writes (text_of (line.End ∷ [])) out.taken sent.taken out.faults sent.faults result →
+    s.phase ≡ Running → IsReady s.script (machine_of s at) → All IsComplete s.runs → (IsMoveDue s → ⊥) → Writes (text_of (line.End ∷ [])) out.taken sent.taken out.faults sent.faults result →
     Goes state moves (sides s at other out) (is_err result) (sides (record s { phase = Over }) at other sent)
 goes_end {s = s} {sent = sent} was ready done none written t stands = record {
   end = record t { phase = Over; out = sent };
@@ -129,7 +130,7 @@ goes_turn {M} {I} {T} {E} {state} {moves} {s} {at} {new_at} {other} {out} {sent}
         task = stands.task;
         phase = stands.phase;
         side = stands.side;
-        ahead = ahead_less t.tried t.task.script.head.migrate t.turns s.ahead (AreAllDone s.script s.runs) stands.ahead none;
+        ahead = ahead_less t.tried t.task.script.head.migrate t.turns s.ahead (All IsComplete s.runs) stands.ahead none;
         lanes = d.stands;
         memory = ap (λ (k : Task). memory_of k.script d.new.lanes) stands.task ∙ sym (whole_memory ready_then.script ready_then.runs ready_then.place.windows d.stands.lanes);
         other = stands.other;
@@ -172,29 +173,30 @@ module _ {M : Type 0} (s : SessionState) (new : ControllerState) {at to : PlaceS
       ∙ rings_at (map image_of at.controller.pairs) to.controller.pairs (k - 1) (image_of no_pair) no_pair (omega (arith, many, ready.place.pairs, low, high)) (omega (arith, waits.at.pairs, low, high))
       ∙ ap (λ (image : PairImage). with_rings image (pair_of to.controller k)) (get_or-map image_of at.controller.pairs (k - 1) no_pair)
 
-  quiet_there : (k : ℕ) → 1 ≤ k → k ≤ s.script.head.lanes → (pair_of new k).commands ≡ []
-  quiet_there k low high = ap (λ (p : PairState). p.commands) (pair_there k low high) ∙ waits.quiet (k - 1) no_pair (omega (arith, waits.at.pairs, low, high))
+  pairs_there : length new.pairs ≡ s.script.head.lanes
+  pairs_there = ap (λ (c : ControllerState). length c.pairs) is ∙ length-with_images (map image_of at.controller.pairs) to.controller.pairs ∙ waits.at.pairs
+
+  quiet_there : AreQuiet new.pairs
+  quiet_there = all_lanes (λ (p : PairState). p.commands ≡ []) new.pairs no_pair pairs_there (λ k low high. ap (λ (p : PairState). p.commands) (pair_there k low high) ∙ quiet_at to.controller waits.quiet k)
 
   rings_there : HaveSameRings s.script at.controller new
   rings_there = record {
     sq = λ k low high. ap (λ (p : PairState). p.sq) (pair_there k low high);
     cq = λ k low high. ap (λ (p : PairState). p.cq) (pair_there k low high);
-    commands = λ k low high. quiet_there k low high ∙ sym (ready.quiet.commands k low high);
+    commands = λ k low high. quiet_at new quiet_there k ∙ sym (quiet_at at.controller ready.quiet k);
   }
-
-  pairs_there : length new.pairs ≡ s.script.head.lanes
-  pairs_there = ap (λ (c : ControllerState). length c.pairs) is ∙ length-with_images (map image_of at.controller.pairs) to.controller.pairs ∙ waits.at.pairs
 
 -- a machine is ready where its guests stand on that place
 ready_at : {M : Type 0} (s : SessionState) {at new : PlaceState M} (ready : IsReady s.script (machine_of s at)) → IsPlaceOf s.script new → new.controller.phase ≡ Started →
-    ((k : ℕ) → 1 ≤ k → k ≤ s.script.head.lanes → (pair_of new.controller k).commands ≡ []) → StandsFor s.script s.runs new.controller new.windows ready.stood.lanes → IsReady s.script (machine_of s new)
+    AreQuiet new.controller.pairs → StandsFor s.script s.runs new.controller new.windows ready.stood.lanes → IsReady s.script (machine_of s new)
 ready_at s {at} {new} ready place running quiet lanes = record {
   script = ready.script;
   runs = ready.runs;
   place = place;
   running = running;
   mix = ready.mix;
-  quiet = record { commands = quiet; results = ready.quiet.results };
+  quiet = quiet;
+  undone = ready.undone;
   stood = record ready.stood { media = media_of new.namespace };
   stands = record { lanes = lanes; media = refl; words = ready.stands.words };
 }
@@ -226,7 +228,7 @@ module _ {M I : Type 0} {state : M → MediumState I} {moves : I → Step → Bo
         windows = subst (HaveWindows s.script) (sym m.crosses.from_memory) ready.place.windows;
         pairs = ap length pairs ∙ ready.place.pairs;
         burst = ap (λ (c : ControllerState). c.burst) m.controllers.0 ∙ ready.place.burst;
-      }) (ap (λ (c : ControllerState). c.phase) m.controllers.0) (λ k low high. ap (λ (ps : List PairState). (slice_index_or ps (k - 1) no_pair).commands) pairs ∙ ready.quiet.commands k low high)
+      }) (ap (λ (c : ControllerState). c.phase) m.controllers.0) (subst AreQuiet (sym pairs) ready.quiet)
       (lanes_here m ready.stood.lanes ready.stands.lanes)
 
   -- the run goes on at the other side

@@ -1,4 +1,4 @@
-use Rattle.std.proofs.Common.{◌≡◌, ◌<◌, List, [], ◌++◌, map, Bool, sym, ap, ◌∙◌, append_assoc, arith}
+use Rattle.std.proofs.Common.{◌≡◌, ◌<◌, All, List, [], ◌++◌, map, Bool, sym, ap, ◌∙◌, append_assoc, arith}
 use Rattle.nvm_model.specs.declared.line.Line.{Line}
 use Rattle.nvm_model.specs.declared.script.Script.{Script}
 use Rattle.nvm_model.specs.declared.trace.Step.{Step}
@@ -11,9 +11,10 @@ use Rattle.turns.specs.Frame.{Frame, total_left}
 use Rattle.nvm_model.specs.Run.{Here, NoneLeft, among, piece_line}
 use Rattle.turns.proofs.FrameLemmas.{frame_less, frame_some, no_first}
 use Rattle.session.specs.declared.lane_run.LaneRun.{LaneRun}
+use Rattle.session.specs.Lanes.{IsComplete}
 use Rattle.session.specs.Phases.{DoesPieces, Fit}
 use Rattle.nvm_model.specs.Told.{serial}
-use Rattle.session.specs.Place.{AreAllDone, AreQuiet, DoesTurn, IsReady, Machine, PlaceState, StandsFor, StandsOn, machine, total_work}
+use Rattle.session.specs.Place.{AreQuiet, AreUndone, DoesTurn, IsReady, Machine, PlaceState, StandsFor, StandsOn, machine, total_work}
 use Rattle.turns.proofs.NextPieceLaws.{pieces_keep}
 use Rattle.session.proofs.RestLemmas.{are_served, at_rest, done_is, work_is}
 use Rattle.turns.specs.Parts.{Leads}
@@ -24,7 +25,7 @@ use Rattle.turns.specs.Parts.{Leads}
 -- done, and the completions posted.
 pub record Phases {M I : Type 0} (state : M → MediumState I) (moves : I → Step → Bool → I → Type 0) (s : Script) (old new : Machine M) (events : List Line) : Type 0 where
   pub ready : IsReady s old
-  pub due : AreAllDone s old.runs → ⊥
+  pub due : All IsComplete old.runs → ⊥
   pub planned_runs : List LaneRun
   pub planned_place : PlaceState M
   pub planned_events : List Line
@@ -41,7 +42,8 @@ pub record Phases {M I : Type 0} (state : M → MediumState I) (moves : I → St
       → Leads (InLanes (PostsAll s) 1) (StandsFor s new.runs new.place.controller new.place.windows) lanes worked_events events
   pub posts_kept : new.place.namespace ≡ worked_place.namespace
   pub fit : Fit s new.runs new.place
-  pub quiet : AreQuiet s new.runs new.place.controller
+  pub quiet : AreQuiet new.place.controller.pairs
+  pub undone : AreUndone new.runs
   pub mix : new.order.mix ≡ s.head.mix
 
 -- from lanes on they are a turn, and less is left
@@ -56,7 +58,7 @@ phases_from {M} {state = state} {moves} {s} {old} {new} {events} p h stands =
     let is = p.ready.script in
     let rest = at_rest is p.ready.runs p.ready.quiet stands.lanes in
     let served = are_served s h.lanes is stands.lanes.count in
-    let not_complete : Complete s (among h.lanes) → ⊥ = λ complete. p.due (done_is p.ready.runs stands.lanes complete) in
+    let not_complete : Complete s (among h.lanes) → ⊥ = λ complete. p.due (done_is is p.ready.runs stands.lanes complete) in
     let frame : Frame s h.lanes plan.added plan.new works.new.lanes posts.added posts.new = record { planning = plan.part; kept = pieces_keep state moves (serial s) planned works.part.pieces works.new works.part.working; posting = posts.part } in
     let lines : plan.added ++ (works.added ++ posts.added) ≡ events =
     sym (append_assoc plan.added works.added posts.added) ∙ ap (λ (es : List Line). (es ++ works.added) ++ posts.added) (sym plan.events_are) ∙ ap (λ (es : List Line). es ++ posts.added) (sym works.events_are) ∙ sym posts.events_are in
@@ -92,7 +94,7 @@ turn_by_phases p h stands = (phases_from p h stands).0
 pub ready_after : {M I : Type 0} {state : M → MediumState I} {moves : I → Step → Bool → I → Type 0} {s : Script} {old new : Machine M} {events : List Line} → Phases state moves s old new events → IsReady s new
 ready_after p =
     let turn = turn_by_phases p p.ready.stood p.ready.stands in
-    record { script = p.ready.script; runs = p.fit.own; place = p.fit.at; running = p.fit.running; mix = p.mix; quiet = p.quiet; stood = turn.new; stands = turn.stands }
+    record { script = p.ready.script; runs = p.fit.own; place = p.fit.at; running = p.fit.running; mix = p.mix; quiet = p.quiet; undone = p.undone; stood = turn.new; stands = turn.stands }
 
 -- and has less left
 pub less_after : {M I : Type 0} {state : M → MediumState I} {moves : I → Step → Bool → I → Type 0} {s : Script} {old new : Machine M} {events : List Line} → Phases state moves s old new events →

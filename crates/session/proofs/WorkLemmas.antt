@@ -37,7 +37,7 @@ use Rattle.controller.proofs.NextLemmas.{IsNext, lane_length, left_worked, next_
 use Rattle.controller.specs.Told.{called, piece_event}
 use Rattle.controller.proofs.DoneLemmas.{piece_does}
 use Rattle.mig_base.proofs.ListLemmas.{element_at, sum_few}
-use Rattle.session.proofs.AllLanesLemmas.{IsSameButLane, fit_more, stands_more, seats}
+use Rattle.session.proofs.AllLanesLemmas.{IsSameButLane, at_place, fit_more, stands_more, seats}
 use Rattle.session.proofs.SeatLemmas.{other_windows}
 use Rattle.turns.specs.Parts.{Leads}
 use Rattle.std.proofs.lemmas.Bool.{cases_eq}
@@ -155,10 +155,8 @@ piece_fits {s = s} {runs} {plan} {place} {piece} at has left piece_is =
 pub result_fits : {M : Type 0} {s : Script} {runs : List LaneRun} {plan : PlanState} {place : PlaceState M} (at : ℕ) → HasPlan s runs plan place → HasPieceLeft s at runs plan → (d : LaneRun) →
     length (slice_index_or runs at d).results.items < vec_capacity (slice_index_or runs at d).results
 result_fits {s = s} {runs} at has left d =
-    let here : at + 1 - 1 ≡ at = omega arith in
     let all = pieces_fit has.fit.head.shelf.0 (has.planned (at + 1) (omega arith) (omega (arith, left.there))) in
-    let room : 64 * s.head.burst ≤ vec_capacity (slice_index_or runs at d).results =
-    subst (λ (i : ℕ). 64 * s.head.burst ≤ vec_capacity (slice_index_or runs i d).results) here (has.fit.own.each (at + 1) d (omega arith) (omega (arith, left.there))).room in
+    let room = at_place (λ (r : LaneRun). 64 * s.head.burst ≤ vec_capacity r.results) runs at (at + 1) d refl (has.fit.own.each (at + 1) d (omega arith) (omega (arith, left.there))).room in
     omega (arith, all, left.left d, room)
 
 -- a lane may post where all its pieces were done
@@ -195,10 +193,9 @@ pub plan_after : {M I : Type 0} {state : M → MediumState I} {moves : I → Ste
 plan_after {s = s} {runs} {plan = plan} {piece = piece} at number low does has is =
     let there : at < length runs = omega (arith, low, is.fit.own.count) in
     let same = piece_same at number there (omega (arith, low, is.fit.at.windows.count)) does has in
-    let here : piece.lane - 1 ≡ at = omega (arith, number) in
     record {
       fit = fit_more (element_at runs at there) same (same_namespace is.fit.at.namespace does.shelves)
-          (λ e. run_after (has.here e) (subst (λ (i : ℕ). IsRunOf s piece.lane (slice_index_or runs i e)) here (is.fit.own.each piece.lane e (omega (arith, number)) (omega (arith, number, low))))) is.fit;
+          (λ e. run_after (has.here e) (at_place (IsRunOf s piece.lane) runs at piece.lane e number (is.fit.own.each piece.lane e (omega (arith, number)) (omega (arith, number, low))))) is.fit;
       fits = is.fits;
       planned = λ k first last. subst (λ (c : ControllerState). IsPlanned s k plan (pair_of c k)) (sym does.noted.others) (is.planned k first last);
     }

@@ -30,6 +30,10 @@ pub record IsRunOf (s : Script) (k : ℕ) (run : LaneRun) : Type 0 where
   pub few : run.acts_done ≤ length run.script.acts.items
   pub room : 64 * s.head.burst ≤ vec_capacity run.results
 
+-- its guest has done its acts, and no command of its is under way
+abbrev pub IsComplete : LaneRun → Type 0
+IsComplete run = (run.acts_done ≡ length run.script.acts.items) × (run.guest.waiting ≡ 0)
+
 -- a host's window of lane k
 abbrev pub window_of : List WindowState → ℕ → WindowState
 window_of windows k = slice_index_or windows (k - 1) no_window
@@ -44,11 +48,11 @@ pub record HaveWindows (s : Script) (windows : List WindowState) : Type 0 where
   pub count : length windows ≡ s.head.lanes
   pub each : (k : ℕ) → 1 ≤ k → k ≤ s.head.lanes → IsWindowOf s k (window_of windows k)
 
--- the run of lane k at its start
-pub record IsNewRun (s : Script) (k : ℕ) (run : LaneRun) : Type 0 where
+-- a lane's run at its start
+pub record IsNewRun (s : Script) (run : LaneRun) : Type 0 where
   pub acts : run.acts_done ≡ 0
   pub results : run.results.items ≡ []
-  pub guest : run.guest ≡ record { lane = k; sq = record { size = (set_of s.head k).sq; head = 0; tail = 0 }; cq = record { size = (set_of s.head k).cq; head = 0; phase = true }; waiting = 0 }
+  pub guest : run.guest ≡ record { lane = run.script.lane; sq = record { size = (set_of s.head run.script.lane).sq; head = 0; tail = 0 }; cq = record { size = (set_of s.head run.script.lane).cq; head = 0; phase = true }; waiting = 0 }
 
 abbrev pub ArePlanned : Script → PlanState → ControllerState → Type 0
 ArePlanned s plan controller = (k : ℕ) → 1 ≤ k → k ≤ s.head.lanes → IsPlanned s k plan (pair_of controller k)

@@ -1,4 +1,4 @@
-use Rattle.std.specs.Prelude.{◌≡◌, ℕ, ◌+◌, ◌-◌, ◌*◌, ◌<◌, ◌≤◌, Bool, List, [], Vec, length, map, slice_index_or, vec_capacity}
+use Rattle.std.specs.Prelude.{◌≡◌, ℕ, ◌+◌, ◌-◌, ◌*◌, ◌<◌, ◌≤◌, All, Bool, List, [], Vec, length, map, slice_index_or, vec_capacity}
 use Rattle.std.specs.declared.alloc.Global.{Global}
 use Rattle.nvm_model.specs.declared.line.Line.{Line}
 use Rattle.nvm_model.specs.declared.script.Script.{Script}
@@ -13,7 +13,7 @@ use Rattle.nvm_model.specs.Run.{Here, IsPiece, PieceCalled, piece_line}
 use Rattle.session.specs.declared.lane_run.LaneRun.{LaneRun}
 use Rattle.session.specs.Lanes.{ArePlanned}
 use Rattle.nvm_model.specs.Told.{serial}
-use Rattle.session.specs.Place.{AreQuiet, AreRunsOf, IsPlaceOf, PlaceState, StandsFor}
+use Rattle.session.specs.Place.{AreQuiet, AreRunsOf, AreUndone, IsPlaceOf, PlaceState, StandsFor}
 
 -- The phases of a turn: all lanes' plans, then their pieces, then their posts.
 
@@ -43,15 +43,12 @@ pub record HasPlan {M : Type 0} (s : Script) (runs : List LaneRun) (plan : PlanS
 -- before a turn: no command of any lane is under way, and the plan is empty
 pub record MayPlanAll {M : Type 0} (s : Script) (runs : List LaneRun) (plan : PlanState) (place : PlaceState M) : Type 0 where
   pub fit : Fit s runs place
-  pub quiet : AreQuiet s runs place.controller
+  pub quiet : AreQuiet place.controller.pairs
+  pub undone : AreUndone runs
   pub fits : FitPlan s plan
-  pub empty : (k : ℕ) → 1 ≤ k → k ≤ s.head.lanes → pieces_of plan k ≡ []
+  pub empty : All (λ ps. ps ≡ []) plan.lanes
 
--- no piece of the turn was done
-abbrev pub AreUndone : Script → List LaneRun → Type 0
-AreUndone s runs = (k : ℕ) (d : LaneRun) → 1 ≤ k → k ≤ s.head.lanes → (slice_index_or runs (k - 1) d).results.items ≡ []
-
--- all pieces of the plan were
+-- all pieces of the plan were done
 abbrev pub AreDone : Script → List LaneRun → PlanState → Type 0
 AreDone s runs plan = (k : ℕ) (d : LaneRun) → 1 ≤ k → k ≤ s.head.lanes → length (slice_index_or runs (k - 1) d).results.items ≡ length (pieces_of plan k)
 

@@ -36,6 +36,10 @@ pub record Machine (M : Type 0) : Type 0 where
 abbrev pub machine : {M : Type 0} → List LaneRun → Order → PlaceState M → Machine M
 machine runs order place = record { runs = runs; order = order; place = place }
 
+-- no command of any pair is under way
+abbrev pub AreQuiet : List PairState → Type 0
+AreQuiet pairs = All (λ (p : PairState). p.commands ≡ []) pairs
+
 -- a place that was opened for a script
 pub record IsPlaceOf {M : Type 0} (s : Script) (place : PlaceState M) : Type 0 where
   pub namespace : IsNamespaceOf s.head place.namespace
@@ -47,7 +51,7 @@ pub record IsPlaceOf {M : Type 0} (s : Script) (place : PlaceState M) : Type 0 w
 pub record IsWaiting {M : Type 0} (s : Script) (place : PlaceState M) : Type 0 where
   pub at : IsPlaceOf s place
   pub waiting : place.controller.phase ≢ Running
-  pub quiet : All (λ (p : PairState). p.commands ≡ []) place.controller.pairs
+  pub quiet : AreQuiet place.controller.pairs
   pub fed : place.controller.fed.lanes ≡ length place.controller.pairs
 
 -- the runs of its lanes
@@ -55,10 +59,9 @@ pub record AreRunsOf (s : Script) (runs : List LaneRun) : Type 0 where
   pub count : length runs ≡ s.head.lanes
   pub each : (k : ℕ) (d : LaneRun) → 1 ≤ k → k ≤ s.head.lanes → IsRunOf s k (slice_index_or runs (k - 1) d)
 
--- no command of any lane is under way
-pub record AreQuiet (s : Script) (runs : List LaneRun) (controller : ControllerState) : Type 0 where
-  pub commands : (k : ℕ) → 1 ≤ k → k ≤ s.head.lanes → (pair_of controller k).commands ≡ []
-  pub results : (k : ℕ) (d : LaneRun) → 1 ≤ k → k ≤ s.head.lanes → (slice_index_or runs (k - 1) d).results.items ≡ []
+-- no piece of the turn was done
+abbrev pub AreUndone : List LaneRun → Type 0
+AreUndone runs = All (λ (r : LaneRun). r.results.items ≡ []) runs
 
 -- runs, controller and windows stand for these lanes of the model
 pub record StandsFor (s : Script) (runs : List LaneRun) (controller : ControllerState) (windows : List WindowState) (lanes : List Lane) : Type 0 where
@@ -79,14 +82,10 @@ pub record IsReady {M : Type 0} (s : Script) (m : Machine M) : Type 0 where
   pub place : IsPlaceOf s m.place
   pub running : m.place.controller.phase ≡ Running
   pub mix : m.order.mix ≡ s.head.mix
-  pub quiet : AreQuiet s m.runs m.place.controller
+  pub quiet : AreQuiet m.place.controller.pairs
+  pub undone : AreUndone m.runs
   pub stood : Here M
   pub stands : StandsOn s m stood
-
--- every guest has done its acts, and no command of its is under way
-abbrev pub AreAllDone : Script → List LaneRun → Type 0
-AreAllDone s runs = (k : ℕ) (d : LaneRun) → 1 ≤ k → k ≤ s.head.lanes
-    → ((slice_index_or runs (k - 1) d).acts_done ≡ length (slice_index_or runs (k - 1) d).script.acts.items) × ((slice_index_or runs (k - 1) d).guest.waiting ≡ 0)
 
 -- What is left of the runs of lanes from k on: a turn lowers it.
 abbrev pub run_work : LaneRun → PairState → ℕ

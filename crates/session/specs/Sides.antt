@@ -1,4 +1,4 @@
-use Rattle.std.specs.Prelude.{◌≡◌, ℕ, ◌-◌, ◌≤◌, Bool, true, false, List, Option, Some, None, slice_index_or}
+use Rattle.std.specs.Prelude.{◌≡◌, ℕ, All, Bool, true, false, List, Option, Some, None}
 use Rattle.nvm_model.specs.declared.script.Head.{Head}
 use Rattle.nvm_model.specs.declared.script.Script.{Script}
 use Rattle.nvm_model.specs.declared.trace.Step.{Step}
@@ -17,14 +17,14 @@ use Rattle.session.specs.declared.order.Order.{Order}
 use Rattle.session.specs.declared.session.Next.{Next}
 use Rattle.session.specs.declared.session.Next.TheVariants.{Turn, Move, End}
 use Rattle.nvm_model.specs.Turn.{word_state}
-use Rattle.session.specs.Lanes.{IsNewRun}
+use Rattle.session.specs.Lanes.{IsComplete, IsNewRun}
 use Rattle.nvm_model.specs.Told.{serial}
 use Rattle.nvm_model.specs.World.{window_pages}
 use Rattle.manager.specs.declared.manager.MovePhase.TheVariants.{New as Unbegun}
 use Rattle.manager.specs.declared.manager.MoveSet.{MoveSet}
 use Rattle.manager.specs.Move.{ManagerState, with_all}
 use Rattle.session.specs.Moves.{Both, HandsOver}
-use Rattle.session.specs.Place.{AreRunsOf, AreAllDone, IsReady, IsWaiting, Machine, PlaceState, StandsOn, pages_of}
+use Rattle.session.specs.Place.{AreRunsOf, IsReady, IsWaiting, Machine, PlaceState, StandsOn, pages_of}
 
 -- What goes where the guests go: the script, the runs of its lanes, the order of pieces, and where the run is. A migration
 -- is due after so many turns, where one is asked for and wasn't begun; a manager does it.
@@ -77,13 +77,13 @@ abbrev pub Goes : {M I : Type 0} → (M → MediumState I) → (I → Step → B
 Goes {M} state moves old failed new = (t : Snapshot M) → StandsAs old t → GoesTo state moves t failed new
 
 abbrev pub IsMoveDue : SessionState → Type 0
-IsMoveDue s = IsDueAfter s.ahead (AreAllDone s.script s.runs)
+IsMoveDue s = IsDueAfter s.ahead (All IsComplete s.runs)
 
 -- what comes next
 abbrev pub IsNext : SessionState → Next → Type 0
-IsNext s Turn = (AreAllDone s.script s.runs → ⊥) × (IsMoveDue s → ⊥)
+IsNext s Turn = (All IsComplete s.runs → ⊥) × (IsMoveDue s → ⊥)
 IsNext s Move = IsMoveDue s
-IsNext s End = AreAllDone s.script s.runs × (IsMoveDue s → ⊥)
+IsNext s End = All IsComplete s.runs × (IsMoveDue s → ⊥)
 
 -- a session stands on a place and does turns
 pub record IsRunning {M : Type 0} (s : SessionState) (at : PlaceState M) : Type 0 where
@@ -101,7 +101,7 @@ pub record IsOnward {M : Type 0} (old : SessionState) (new : SessionState) (at :
 -- turns stop where a migration is due, or at the end
 abbrev pub IsStop : Bool → SessionState → Type 0
 IsStop true s = IsMoveDue s
-IsStop false s = AreAllDone s.script s.runs × (IsMoveDue s → ⊥)
+IsStop false s = All IsComplete s.runs × (IsMoveDue s → ⊥)
 
 -- The move and the end.
 
@@ -157,7 +157,7 @@ pub record HasEnded (ending : Ending) (s : SessionState) : Type 0 where
 pub record IsNewSession (s : Script) (session : SessionState) : Type 0 where
   pub script : session.script ≡ s
   pub runs : AreRunsOf s session.runs
-  pub new : (k : ℕ) (d : LaneRun) → 1 ≤ k → k ≤ s.head.lanes → IsNewRun s k (slice_index_or session.runs (k - 1) d)
+  pub new : All (IsNewRun s) session.runs
   pub mix : session.order.mix ≡ s.head.mix
   pub words : session.order.words ≡ word_state s.head.mix 0
   pub ahead : session.ahead ≡ turns_ahead s.head.migrate

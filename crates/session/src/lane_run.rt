@@ -1,6 +1,6 @@
-ghost use Rattle.std.specs.Prelude.{◌≡◌, ◌≤◌, ◌↔◌, IfOk, IsTrue, length};
+ghost use Rattle.std.specs.Prelude.{◌≤◌, ◌↔◌, IfOk, IsTrue};
 ghost use Rattle.nvm_model.specs.ScriptText.{IsScript};
-ghost use Rattle.session.specs.Lanes.{IsNewRun, IsRunOf};
+ghost use Rattle.session.specs.Lanes.{IsComplete, IsNewRun, IsRunOf};
 
 use crate::LaneScript;
 use lanes::Guest;
@@ -29,7 +29,7 @@ impl LaneRun {
         requires script { IsScript script.now }
         requires there { (1 ≤ lane) × (lane ≤ script.now.head.lanes) }
         ensures run { IfOk result (IsRunOf script.now lane) }
-        ensures new { IfOk result (IsNewRun script.now lane) }
+        ensures new { IfOk result (IsNewRun script.now) }
     {
         let own = LaneScript::make(alloc, script, lane)?;
         let guest = Guest::new(lane, own.set);
@@ -44,8 +44,7 @@ impl LaneRun {
 
     /// Whether the guest has done its acts and no command of its is under way.
     pub fn is_complete(&self) -> bool
-        ensures { IsTrue result
-            ↔ ((self.now.acts_done ≡ length self.now.script.acts.items) × (self.now.guest.waiting ≡ 0)) }
+        ensures { IsTrue result ↔ IsComplete self.now }
     {
         self.acts_done as usize == self.script.acts.len() && self.guest.is_quiet()
     }

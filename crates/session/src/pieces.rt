@@ -11,10 +11,10 @@ ghost use Rattle.nvm_model.specs.Run.{Here, MayBeNext};
 ghost use Rattle.turns.specs.Parts.{Leads};
 ghost use Rattle.session.specs.declared.lane_run.LaneRun.{LaneRun};
 ghost use Rattle.session.specs.LaneParts.{HasMore};
-ghost use Rattle.session.specs.Phases.{AreDone, AreUndone, DoesPieces, FitPlan, HasPieceLeft, HasPlan};
+ghost use Rattle.session.specs.Phases.{AreDone, DoesPieces, FitPlan, HasPieceLeft, HasPlan};
 ghost use Rattle.session.specs.Phases.{StandsNext, StandsOver};
 ghost use Rattle.nvm_model.specs.Told.{serial};
-ghost use Rattle.session.specs.Place.{AreRunsOf, StandsOn, machine};
+ghost use Rattle.session.specs.Place.{AreRunsOf, AreUndone, StandsOn, machine};
 ghost use Rattle.session.specs.Work.{AreLeft, HasDone, HasResultAt, due_piece};
 ghost use Rattle.session.specs.Seats.{DropsEntries};
 
@@ -48,7 +48,7 @@ pub(crate) fn do_pieces<M: Medium>(
     events: &mut Vec<Line>,
     place: &mut Place<M>,
 )
-    requires has { HasPlan script.now runs.old.items plan.now place.old × AreUndone script.now runs.old.items }
+    requires has { HasPlan script.now runs.old.items plan.now place.old × AreUndone runs.old.items }
     requires clear { All (All (λ p. entries_at place.old.namespace p.span.first ≡ [])) plan.now.lanes }
     requires mix { order.old.mix ≡ script.now.head.mix }
     requires room { vec_len events.old + 4096 * script.now.head.lanes ≤ vec_capacity events.old }
@@ -75,7 +75,7 @@ pub(crate) fn do_pieces<M: Medium>(
 /// Counts the pieces of each lane, none of which is done.
 fn count_left(script: &Script, runs: &Vec<LaneRun>, plan: &Plan, left: &mut [usize])
     requires fits { AreRunsOf script.now runs.now.items × FitPlan script.now plan.now }
-    requires none { AreUndone script.now runs.now.items }
+    requires none { AreUndone runs.now.items }
     requires count { length left.old ≡ script.now.head.lanes }
     ensures { AreLeft script.now runs.now.items plan.now left.new }
 {

@@ -12,8 +12,8 @@ ghost use Rattle.turns.specs.Parts.{ActsSome, Leads, ReapsSome};
 ghost use Rattle.session.specs.LaneParts.{DidAct, HasMore, HasOne, IsGuestStep, IsSeat};
 ghost use Rattle.session.specs.LaneParts.{MayFetch, StandBoth, StandsFree, seat_of};
 ghost use Rattle.session.specs.Lanes.{Stands};
-ghost use Rattle.session.specs.Phases.{AreUndone, FitPlan, HasPlan, MayPlanAll};
-ghost use Rattle.session.specs.Place.{StandsFor};
+ghost use Rattle.session.specs.Phases.{FitPlan, HasPlan, MayPlanAll};
+ghost use Rattle.session.specs.Place.{AreUndone, StandsFor};
 
 use crate::{LaneRun, Place};
 use controller::Controller;
@@ -40,7 +40,7 @@ pub(crate) fn plan_all<M: Medium>(
         → Leads (InLanes (Plans script.now) 1)
         (StandsFor script.now runs.new.items place.new.controller place.new.windows)
         lanes events.old.items events.new.items }
-    ensures has { HasPlan script.now runs.new.items plan.new place.new × AreUndone script.now runs.new.items }
+    ensures has { HasPlan script.now runs.new.items plan.new place.new × AreUndone runs.new.items }
     ensures namespace { place.new.namespace ≡ place.old.namespace }
     ensures more { HasMore (384 * script.now.head.lanes) events.old events.new }
 {

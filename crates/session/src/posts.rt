@@ -8,7 +8,7 @@ ghost use Rattle.turns.specs.Parts.{Leads};
 ghost use Rattle.session.specs.LaneParts.{HasMore, IsFree, IsSeat, seat_of};
 ghost use Rattle.session.specs.Lanes.{Stands};
 ghost use Rattle.session.specs.Phases.{AreDone, Fit, HasPlan};
-ghost use Rattle.session.specs.Place.{AreQuiet, StandsFor};
+ghost use Rattle.session.specs.Place.{AreQuiet, AreUndone, StandsFor};
 ghost use Rattle.session.specs.Work.{MayPost};
 
 use crate::{LaneRun, Place};
@@ -35,7 +35,8 @@ pub(crate) fn post_all<M: Medium>(
         → Leads (InLanes (PostsAll script.now) 1)
         (StandsFor script.now runs.new.items place.new.controller place.new.windows)
         lanes events.old.items events.new.items }
-    ensures rests { Fit script.now runs.new.items place.new × AreQuiet script.now runs.new.items place.new.controller }
+    ensures rests { Fit script.now runs.new.items place.new × AreQuiet place.new.controller.pairs
+        × AreUndone runs.new.items }
     ensures namespace { place.new.namespace ≡ place.old.namespace }
     ensures more { HasMore (64 * script.now.head.lanes) events.old events.new }
 {

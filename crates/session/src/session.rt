@@ -1,8 +1,8 @@
-ghost use Rattle.std.specs.Prelude.{◌≡◌, ◌-◌, ◌≤◌, ℕ, IfOk, IfSome, IsTrue, length, slice_index_or};
+ghost use Rattle.std.specs.Prelude.{◌≡◌, ◌≤◌, All, IfOk, IfSome, IsTrue};
 ghost use Rattle.nvm_model.specs.ScriptText.{IsHead, IsScript};
 ghost use Rattle.nvm_model.specs.World.{window_pages};
-ghost use Rattle.session.specs.declared.lane_run.LaneRun.{LaneRun};
-ghost use Rattle.session.specs.Lanes.{IsNewRun, IsRunOf};
+ghost use Rattle.session.specs.Lanes.{IsNewRun};
+ghost use Rattle.session.specs.Place.{AreRunsOf};
 ghost use Rattle.turns.specs.Ahead.{IsDueAfter, turns_ahead};
 ghost use Rattle.session.specs.Sides.{IsNewSession, IsNext, move_set};
 
@@ -109,7 +109,7 @@ impl Session {
     pub fn next(&self) -> Next
         ensures { IsNext self.now result }
     {
-        let complete = are_all_done(&self.script, &self.runs);
+        let complete = are_all_done(&self.runs);
         if is_due(self.ahead, complete) {
             return Next::Move;
         }
@@ -174,11 +174,8 @@ pub fn window_pages(head: &Head) -> u32
 /// The runs of a script's lanes at their start.
 fn make_runs(alloc: Global, script: &Script) -> Result<Vec<LaneRun>, OutOfMemory>
     requires { IsScript script.now }
-    ensures count { IfOk result (λ runs. length runs.items ≡ script.now.head.lanes) }
-    ensures runs { IfOk result (λ runs. (k : ℕ) (d : LaneRun) → 1 ≤ k → k ≤ script.now.head.lanes
-        → IsRunOf script.now k (slice_index_or runs.items (k - 1) d)) }
-    ensures new { IfOk result (λ runs. (k : ℕ) (d : LaneRun) → 1 ≤ k → k ≤ script.now.head.lanes
-        → IsNewRun script.now k (slice_index_or runs.items (k - 1) d)) }
+    ensures runs { IfOk result (λ runs. AreRunsOf script.now runs.items) }
+    ensures new { IfOk result (λ runs. All (IsNewRun script.now) runs.items) }
 {
     let mut runs = Vec::with_capacity(alloc, usize::from(script.head.lanes))?;
     for at in 0..script.head.lanes {

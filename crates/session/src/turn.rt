@@ -1,8 +1,9 @@
 // One turn on one thread: a list of events, whose lines are written after it.
-ghost use Rattle.std.specs.Prelude.{◌<◌, IsTrue};
+ghost use Rattle.std.specs.Prelude.{◌<◌, All, IsTrue};
 ghost use Rattle.nvm_model.specs.Run.{Here};
+ghost use Rattle.session.specs.Lanes.{IsComplete};
 ghost use Rattle.session.specs.Phases.{HasRoom};
-ghost use Rattle.session.specs.Place.{AreAllDone, AreRunsOf, DoesTurn, IsReady, StandsOn, machine, total_work};
+ghost use Rattle.session.specs.Place.{DoesTurn, IsReady, StandsOn, machine, total_work};
 
 use crate::pieces::{clear_shelves, do_pieces};
 use crate::plan::plan_all;
@@ -16,10 +17,9 @@ use nvm_model::{Line, Script};
 pub const MOST_EVENTS: usize = 4608;
 
 /// Whether every guest has done its acts and no command of its is under way.
-pub(crate) fn are_all_done(script: &Script, runs: &Vec<LaneRun>) -> bool
-    requires runs { AreRunsOf script.now runs.now.items }
-    ensures done { IsTrue result → AreAllDone script.now runs.now.items }
-    ensures not { AreAllDone script.now runs.now.items → IsTrue result }
+pub(crate) fn are_all_done(runs: &Vec<LaneRun>) -> bool
+    ensures done { IsTrue result → All IsComplete runs.now.items }
+    ensures not { All IsComplete runs.now.items → IsTrue result }
 {
     for run in runs {
         if !run.is_complete() {
@@ -41,7 +41,7 @@ pub(crate) fn do_turn<M: Medium>(
 )
     requires ready { IsReady script.now (machine runs.old.items order.old place.old) }
     requires room { HasRoom script.now plan.old events.old }
-    requires due { AreAllDone script.now runs.old.items → ⊥ }
+    requires due { All IsComplete runs.old.items → ⊥ }
     ensures turn { (h : Here M)
         → StandsOn script.now (machine runs.old.items order.old place.old) h
         → DoesTurn M.state M.moves script.now h events.new.items (machine runs.new.items order.new place.new) }

@@ -1,9 +1,9 @@
-use Rattle.std.proofs.Common.{◌≡◌, ◌∙◌, ◌<◌, [], refl, arith}
+use Rattle.std.proofs.Common.{◌≡◌, ◌∙◌, ◌<◌, ◌-◌, [], refl, arith}
 use Rattle.mig_base.proofs.ListLemmas.{element_at}
 use Rattle.controller.specs.Pair.{pair_of}
 use Rattle.session.specs.declared.lane_run.LaneRun.{LaneRun}
 use Rattle.turns.proofs.PartLaws.{none_yet, leads_none, all_led}
-use Rattle.session.proofs.AllLanesLemmas.{PlannedTo, led_more, more_more, planned_more, put_here, run_here, seat_at, seat_put}
+use Rattle.session.proofs.AllLanesLemmas.{PlannedTo, all_lanes, quiet_at, led_more, more_more, planned_more, put_here, run_here, seat_at, seat_put}
 use Rattle.session.proofs.plan.plan_all.Goals as goal
 
 pub loop-at-init : goal.loop-at-init
@@ -13,8 +13,8 @@ loop-at-init g c = record {
   fits = c.requires.may.fits;
   each = λ k d low high. record {
     planned = λ none. absurd (omega (arith, low, none));
-    later = λ _. (c.requires.may.quiet.commands k low high, c.requires.may.empty k low high);
-    undone = c.requires.may.quiet.results k d low high;
+    later = λ _. (quiet_at c.args.place.now.controller c.requires.may.quiet k, c.requires.may.empty (k - 1) [] (omega (arith, low, high, c.requires.may.fits.count)));
+    undone = c.requires.may.undone (k - 1) d (omega (arith, low, high, c.requires.may.fit.own.count));
   };
   namespace = refl;
   more = record { fewer = omega arith; few = omega arith; capacity = refl };
@@ -63,5 +63,7 @@ returns-clause-leads g c = λ lanes stands.
 pub returns-clause-has : goal.returns-clause-has
 returns-clause-has g c =
     let now = c.loop-at.invariant in
-    let d = element_at c.loop-at.runs.items 0 (omega (arith, now.fit.own.count, now.fit.head.lanes.0)) in
-    (record { fit = now.fit; fits = now.fits; planned = λ k low high. (now.each k d low high).planned (omega (arith, high)) }, λ k e low high. (now.each k e low high).undone)
+    let d = element_at c.loop-at.runs.items 0 (omega (arith, now.fit.own.count, now.fit.head.lanes.0)) in (
+      record { fit = now.fit; fits = now.fits; planned = λ k low high. (now.each k d low high).planned (omega (arith, high)) },
+      all_lanes (λ (r : LaneRun). r.results.items ≡ []) c.loop-at.runs.items d now.fit.own.count (λ k low high. (now.each k d low high).undone),
+    )

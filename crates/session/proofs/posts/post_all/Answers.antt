@@ -1,9 +1,9 @@
-use Rattle.std.proofs.Common.{◌≡◌, ◌∙◌, ◌<◌, [], refl, arith}
+use Rattle.std.proofs.Common.{◌≡◌, ◌∙◌, ◌<◌, ◌≤◌, ℕ, [], refl, arith}
 use Rattle.mig_base.proofs.ListLemmas.{element_at}
-use Rattle.controller.specs.Pair.{pair_of}
+use Rattle.controller.specs.Pair.{PairState, no_pair, pair_of}
 use Rattle.session.specs.declared.lane_run.LaneRun.{LaneRun}
 use Rattle.turns.proofs.PartLaws.{none_yet, leads_none, all_led}
-use Rattle.session.proofs.AllLanesLemmas.{PostedTo, led_more, more_more, posted_more, put_here, run_here, seat_at, seat_put}
+use Rattle.session.proofs.AllLanesLemmas.{PostedTo, all_lanes, led_more, more_more, posted_more, put_here, run_here, seat_at, seat_put}
 use Rattle.session.proofs.WorkLemmas.{may_post}
 use Rattle.session.proofs.posts.post_all.Goals as goal
 
@@ -54,4 +54,8 @@ pub returns-clause-rests : goal.returns-clause-rests
 returns-clause-rests g c =
     let now = c.loop-at.invariant in
     let d = element_at c.loop-at.runs.items 0 (omega (arith, now.fit.own.count, now.fit.head.lanes.0)) in
-    (now.fit, record { commands = λ k low high. ((now.each k d low high).quiet (omega (arith, high))).0; results = λ k e low high. ((now.each k e low high).quiet (omega (arith, high))).1 })
+    let rests = λ (k : ℕ) (low : 1 ≤ k) (high : k ≤ c.args.script.now.head.lanes). (now.each k d low high).quiet (omega (arith, high)) in (
+      now.fit,
+      all_lanes (λ (p : PairState). p.commands ≡ []) c.loop-at.place.controller.pairs no_pair now.fit.at.pairs (λ k low high. (rests k low high).0),
+      all_lanes (λ (r : LaneRun). r.results.items ≡ []) c.loop-at.runs.items d now.fit.own.count (λ k low high. (rests k low high).1),
+    )

@@ -34,6 +34,7 @@ phases g c =
       posts_kept = c.post_all.ensures.namespace;
       fit = c.post_all.ensures.rests.0;
       quiet = c.post_all.ensures.rests.1;
+      undone = c.post_all.ensures.rests.2;
       mix = c.do_pieces.ensures.mix;
     }
 
