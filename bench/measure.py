@@ -89,9 +89,9 @@ def small_pieces(pieces):
 
 
 def writes_of_turns(shelves):
-    """64,500 writes of one block each, 59 in a turn, over so many shelves."""
+    """64,000 writes of one block each, 59 in a turn, over so many shelves."""
     lines = head(64, 1, shelves=shelves)
-    for i in range(64500):
+    for i in range(64000):
         lines.append(f"1 submit {i % 65536} write {i % 64} 1 0 -")
         if i % 59 == 58:
             lines.append("1 wait")
