@@ -1,6 +1,5 @@
 use Rattle.std.specs.Prelude.{◌≡◌, ◌≢◌, ℕ, ◌+◌, ◌-◌, ◌*◌, ◌≤◌, List, [], ◌∷◌, ◌++◌, Result, Ok, Err, drop, length, min, take}
 use Rattle.mig_base.specs.Count.{RisesBy}
-use Rattle.nvm_model.specs.Medium.{StayTold}
 use Rattle.adm_values.specs.declared.command.AdminCpl.{AdminCpl}
 use Rattle.adm_values.specs.declared.command.What.{What}
 use Rattle.adm_values.specs.declared.command.What.TheVariants.{SetState, GetState}
@@ -24,14 +23,13 @@ pub record DoesSuspend {I : Type 0} (moves : I → PortCall → I → Type 0) (t
   pub from_is : new.from ≡ with_controller (suspended old.from.controller) old.from
   pub to_is : new.to ≡ old.to
 
--- These blocks were copied. In which the sides may have differed besides, they still may.
+-- These blocks were copied, and the source's are as they were. In which the sides may have differed besides, they still may.
 pub record DoesCopy {I : Type 0} (moves : I → PortCall → I → Type 0) (asks : List Ask) (done : List ℕ) (old new : PortState I) : Type 0 where
   pub asked : Asked moves asks old new
-  pub kept : StayTold (λ bs cs. cs ≡ bs) old.from.blocks new.from.blocks
   pub fewer : (rest : List ℕ) → TellDifference old.count (done ++ rest) old.from.blocks old.to.blocks → TellDifference old.count rest new.from.blocks new.to.blocks
   pub from_later : old.from.faults ≤ new.from.faults
   pub to_later : old.to.faults ≤ new.to.faults
-  pub from_is : new.from ≡ with_media_of new.from old.from
+  pub from_is : new.from ≡ record old.from { faults = new.from.faults }
   pub to_is : new.to ≡ with_media_of new.to old.to
 
 -- a copy failed after these, and others of all were left
