@@ -7,6 +7,7 @@ use Rattle.std.specs.List.{range_with_len}
 use Rattle.mig_base.specs.Count.{RisesBy}
 use Rattle.nvm_model.specs.Medium.{StayTold}
 use Rattle.manager.specs.declared.manager.MediumFault.{MediumFault}
+use Rattle.manager.specs.declared.side.CopyAnswer.{CopyAnswer}
 use Rattle.manager.specs.declared.side.CopyAnswer.TheVariants.{Copied, Fault}
 use Rattle.manager.specs.declared.side.Side.{Side}
 use Rattle.manager.specs.declared.side.Side.TheVariants.{From, To}
@@ -69,37 +70,28 @@ none_told_differs count (Some from) (Some to) d = none_differs count from to d
 pub none_copied : {I : Type 0} (moves : I → PortCall → I → Type 0) (p : PortState I) → DoesCopy moves [] [] p p
 none_copied moves p = record { asked = asked_none moves p; fewer = λ rest d. d; from_later = omega arith; to_later = omega arith; from_is = refl; to_is = refl }
 
--- one went over
-pub one_copied : {I : Type 0} {moves : I → PortCall → I → Type 0} {old new : PortState I} (b : ℕ) (bytes : List ℕ) → IsPortCall moves old (Copy b bytes Copied) new → DoesCopy moves (copy_asks (b ∷ [])) (b ∷ []) old new
-one_copied {I} {moves} {old} {new} b bytes c = record {
-  asked = asked_call (Copy b bytes Copied) c;
-  fewer = λ rest d. told_fewer old.count b rest bytes old.from.blocks new.from.blocks old.to.blocks new.to.blocks c.does.there c.does.read c.does.written d;
+-- one was tried
+one_tried : {I : Type 0} {moves : I → PortCall → I → Type 0} {answer : CopyAnswer} {done : List ℕ} {old new : PortState I} (b : ℕ) (bytes : List ℕ) → IsPortCall moves old (Copy b bytes answer) new
+    → ((rest : List ℕ) → TellDifference old.count (done ++ rest) old.from.blocks old.to.blocks → TellDifference old.count rest new.from.blocks new.to.blocks) → DoesCopy moves (AskCopy b answer ∷ []) done old new
+one_tried {answer = answer} {old = old} {new} b bytes c fewer = record {
+  asked = asked_call (Copy b bytes answer) c;
+  fewer = fewer;
   from_later = c.does.from_later;
   to_later = c.does.to_later;
   from_is = c.does.from_is ∙ ap (λ (blocks : Option (List (List ℕ))). record old.from { blocks = blocks; faults = new.from.faults }) (told_same old.from.blocks new.from.blocks (λ x y both. both.0) c.does.read);
   to_is = c.does.to_is;
 }
 
+-- it went over
+pub one_copied : {I : Type 0} {moves : I → PortCall → I → Type 0} {old new : PortState I} (b : ℕ) (bytes : List ℕ) → IsPortCall moves old (Copy b bytes Copied) new → DoesCopy moves (copy_asks (b ∷ [])) (b ∷ []) old new
+one_copied {old = old} {new} b bytes c = one_tried b bytes c (λ rest d. told_fewer old.count b rest bytes old.from.blocks new.from.blocks old.to.blocks new.to.blocks c.does.there c.does.read c.does.written d)
+
 -- or it didn't
 pub one_stopped : {I : Type 0} {moves : I → PortCall → I → Type 0} {old new : PortState I} (b : ℕ) (bytes : List ℕ) (side : Side) → IsPortCall moves old (Copy b bytes (Fault side)) new → DoesStop moves (b ∷ []) side old new
-one_stopped {I} {moves} {old} {new} b bytes side c =
+one_stopped {old = old} {new} b bytes side c =
     let from = told_same old.from.blocks new.from.blocks (λ x y both. both.0) c.does.read in
     let to = told_same old.to.blocks new.to.blocks (λ x y same. same) c.does.written in
-    record {
-      front = [];
-      last = b;
-      others = [];
-      all_is = refl;
-      copy = record {
-        asked = asked_call (Copy b bytes (Fault side)) c;
-        fewer = λ rest d. rw (from, to) d;
-        from_later = c.does.from_later;
-        to_later = c.does.to_later;
-        from_is = c.does.from_is ∙ ap (λ (blocks : Option (List (List ℕ))). record old.from { blocks = blocks; faults = new.from.faults }) from;
-        to_is = c.does.to_is;
-      };
-      rose = c.does.cause;
-    }
+    record { front = []; last = b; others = []; all_is = refl; copy = one_tried b bytes c (λ rest d. rw (from, to) d); rose = c.does.cause }
 
 -- one and then others
 copied_more : {I : Type 0} {moves : I → PortCall → I → Type 0} {asks : List Ask} {b : ℕ} {done : List ℕ} {old mid new : PortState I} → DoesCopy moves (copy_asks (b ∷ [])) (b ∷ []) old mid → DoesCopy moves asks done mid new

@@ -1,12 +1,11 @@
-use Rattle.std.proofs.Common.{◌≡◌, ℕ, ◌+◌, ◌-◌, ◌*◌, ◌/◌, ◌%◌, ◌^◌, ◌<◌, ◌≤◌, Bool, List, [], ◌∷◌, ◌++◌, append-nil, get_or, length, map, replicate, take, true, refl, sym, ap, ◌∙◌, subst, arith}
+use Rattle.std.proofs.Common.{◌≡◌, ℕ, ◌+◌, ◌-◌, ◌*◌, ◌/◌, ◌%◌, ◌^◌, ◌<◌, ◌≤◌, Bool, List, [], ◌∷◌, ◌++◌, append-nil, get_or, length, map, replicate, take, true, refl, sym, ap, ◌∙◌, arith}
 use Rattle.std.proofs.Math.ListN.{get_or-map}
 use Rattle.std.proofs.lemmas.List.{drop_at, length-append, length-map, length-replicate, take_at}
 use Rattle.std.proofs.lemmas.List.Elements.{All-from_get_or}
 use Rattle.ctl_state.specs.declared.image.PairState.{PairState as PairImage}
 use Rattle.ctl_state.specs.Image.{IsPair, none}
-use Rattle.ctl_state.specs.Parts.{image_size}
-use Rattle.controller.specs.declared.controller.Phase.{Phase}
-use Rattle.controller.specs.Admin.{Resumes, image_of, state_bytes}
+use Rattle.ctl_state.specs.Parts.{IsWhole, image_size}
+use Rattle.controller.specs.Admin.{image_of, state_bytes}
 use Rattle.controller.specs.Pair.{ControllerState, no_pair}
 use Rattle.manager.specs.declared.manager.MovePhase.{MovePhase}
 use Rattle.manager.specs.declared.manager.MovePhase.TheVariants.{Stopped}
@@ -17,11 +16,11 @@ use Rattle.manager.specs.Asks.{Ask, Asked, copy_asks, cut_over_asks, page_asks, 
 use Rattle.manager.specs.Asks.Ask.{Copy, CopyPage, Mark}
 use Rattle.manager.specs.Move.{Covers, Fits, HasImage, HoldsSame, LeavesSource, ManagerState, MayCutOver, give_up_asks, gone_on_with, suspended}
 use Rattle.manager.specs.Owed.{DifferIn, TellDifference, TellSame, places_of}
-use Rattle.manager.specs.Parts.{DoesCopy, DoesPages, DoesResume, DoesStop, DoesSuspend, HandsOver, size_of}
+use Rattle.manager.specs.Parts.{DoesCopy, DoesPages, DoesResume, DoesStop, DoesSuspend, HandsOver, size_of, with_fed}
 use Rattle.manager.specs.Port.{PortCall, PortState, SideState, with_media_of}
 use Rattle.manager.proofs.AskLemmas.{asked_more}
 use Rattle.manager.proofs.CopyLemmas.{all_differ, length-places, none_differs, none_told_differs}
-use Rattle.manager.proofs.StateLemmas.{gone_on, rings_taken}
+use Rattle.manager.proofs.StateLemmas.{gone_on, rings_taken, state_is}
 use Rattle.manager.proofs.StepLemmas.{length-whole_parts}
 
 -- How many calls the parts of a cutover make.
@@ -53,7 +52,7 @@ module _ {I : Type 0} {moves : I → PortCall → I → Type 0} {t : ℕ} {s0 s1
   controller_3 = rw (p.from_is, b.from_is, a.from_is)
 
   from_5 : s5.from ≡ s2.from
-  from_5 = r.sides.0 ∙ h.fed.from_is ∙ p.from_is
+  from_5 = r.sides.0 ∙ h.from_is ∙ p.from_is
 
   pub cut_asked : Asked moves (cut_over_asks t (places_of m.blocks) (places_of m.pages) (image_size (length s0.from.controller.pairs))) s0 s5
   cut_asked = asked_more a.asked (asked_more b.asked (asked_more p.asked (asked_more (rw (ap size_of controller_3) at h.asked) r.asked)))
@@ -62,27 +61,26 @@ module _ {I : Type 0} {moves : I → PortCall → I → Type 0} {t : ℕ} {s0 s1
   source_left = record { is = rw from_5 (b.from_is ∙ ap (λ (s : SideState). record s { faults = s2.from.faults }) a.from_is) }
 
   same_blocks : TellDifference m.set.blocks (places_of m.blocks) s0.from.blocks s0.to.blocks → TellSame s5.from.blocks s5.to.blocks
-  same_blocks d = rw (from_5, r.sides.1, h.fed.to_is, p.to_is) (none_told_differs s1.count s2.from.blocks s2.to.blocks (b.fewer [] (rw (append-nil, a.from_is, a.to_is, a.asked.count, fits.blocks) d)))
+  same_blocks d = rw (from_5, r.sides.1, h.to_is, p.to_is) (none_told_differs s1.count s2.from.blocks s2.to.blocks (b.fewer [] (rw (append-nil, a.from_is, a.to_is, a.asked.count, fits.blocks) d)))
 
   same_pages : DifferIn m.set.ram_pages (places_of m.pages) s0.from.pages s0.to.pages → s5.to.pages ≡ s5.from.pages
-  same_pages d = rw (r.sides.0, h.fed.from_is, r.sides.1, h.fed.to_is) (none_differs m.set.ram_pages s3.from.pages s3.to.pages (p.fewer m.set.ram_pages [] (rw (append-nil, b.from_is, a.from_is, b.to_is, a.to_is) d)))
+  same_pages d = rw (r.sides.0, h.from_is, r.sides.1, h.to_is) (none_differs m.set.ram_pages s3.from.pages s3.to.pages (p.fewer m.set.ram_pages [] (rw (append-nil, b.from_is, a.from_is, b.to_is, a.to_is) d)))
 
   pub holds_same : HoldsSame m s0 s5
   holds_same =
       let source = s0.from.controller in
-      let i = may.image in
-      let image : HasImage (suspended source) = record { image = i.image; is = i.is; rings = i.rings } in
+      let fed : ControllerState = (with_fed (state_bytes s3.from.controller) s3.to).controller in
       let to_3 : s3.to.controller ≡ s0.to.controller = rw (p.to_is, b.to_is, a.to_is) in
-      let lanes : s4.to.controller.fed.lanes ≡ length source.pairs = h.fed.lanes ∙ rw to_3 may.fed in
-      let again = subst (λ (phase : Phase). Resumes phase s4.to.controller r.result r.controller) h.loading r.resumes in
-      let goes = gone_on (suspended source) s4.to.controller r.controller image r.result again.0 lanes (h.bytes ∙ ap state_bytes controller_3) again.1 in
+      let whole : IsWhole fed.fed.lanes fed.fed.bytes may.image.image = rw (to_3, may.fed, controller_3) (may.image.is, state_is source may.image) in
+      let again = rw h.to_is at r.resumes in
+      let goes = gone_on source fed r.controller may.image r.result again.0 whole again.1 in
       let rings : List PairImage = map image_of source.pairs in
-      let now : s5.to.controller ≡ record (gone_on_with rings s0.to.controller) { fed = s4.to.controller.fed } = rw r.sides.1 (goes ∙ rw (h.fed.to_is, to_3)) in
+      let now : s5.to.controller ≡ record (gone_on_with rings s0.to.controller) { fed = s4.to.controller.fed } = rw r.sides.1 (goes ∙ rw (h.to_is, to_3)) in
       record {
         blocks = same_blocks;
         pages = same_pages;
         running = rw now;
-        state = rw (now, r.sides.0, h.fed.from_is, controller_3) (rings_taken rings s0.to.controller.pairs (length-map source.pairs image_of ∙ sym may.lanes));
+        state = rw (now, r.sides.0, h.from_is, controller_3) (rings_taken rings s0.to.controller.pairs (length-map source.pairs image_of ∙ sym may.lanes));
       }
 
 -- where no side was suspended, a move that is given up is marked alone

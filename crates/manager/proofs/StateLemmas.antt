@@ -14,7 +14,7 @@ use Rattle.std.specs.Prelude.{slice_index_or}
 
 -- A controller's state as the parts of an image.
 
-state_is : (c : ControllerState) (i : HasImage c) → image_bytes i.image ≡ state_bytes c
+pub state_is : (c : ControllerState) (i : HasImage c) → image_bytes i.image ≡ state_bytes c
 state_is c i = λ k. header (i.is.used k) ++ pairs_bytes 1 (i.rings k)
 
 pub state_size : (c : ControllerState) → HasImage c → length (state_bytes c) ≡ size_of c
@@ -37,18 +37,11 @@ module _ (source old new : ControllerState) (i : HasImage source) (offset : ℕ)
   part_taken Loading not sets = was_fed sets
 
 -- A whole state is.
-pub gone_on : (source old new : ControllerState) (i : HasImage source) (result : AdminResult) (image : Option Image) → old.fed.lanes ≡ length source.pairs → old.fed.bytes ≡ state_bytes source
-    → GoesOnWith old image result new → new ≡ gone_on_with (map image_of source.pairs) old
-gone_on source old new i result image lanes bytes goes = of image goes
-  where
-    whole : IsWhole old.fed.lanes old.fed.bytes i.image
-    whole = rw lanes (i.is, state_is source i ∙ sym bytes)
-
-    of : (image : Option Image) → GoesOnWith old image result new → new ≡ gone_on_with (map image_of source.pairs) old
-    of None goes = absurd (goes.0 i.image whole)
-    of (Some image) goes =
-        let same : image ≡ i.image = sym (whole_same old.fed.lanes old.fed.bytes image goes.0) ∙ whole_same old.fed.lanes old.fed.bytes i.image whole in
-        goes.1.1 ∙ ap (λ (rings : List PairImage). gone_on_with rings old) (ap pairs_of same ∙ i.rings)
+pub gone_on : (source old new : ControllerState) (i : HasImage source) (result : AdminResult) (image : Option Image) → IsWhole old.fed.lanes old.fed.bytes i.image → GoesOnWith old image result new → new ≡ gone_on_with (map image_of source.pairs) old
+gone_on source old new i result None whole goes = absurd (goes.0 i.image whole)
+gone_on source old new i result (Some image) whole goes =
+    let same : image ≡ i.image = sym (whole_same old.fed.lanes old.fed.bytes image goes.0) ∙ whole_same old.fed.lanes old.fed.bytes i.image whole in
+    goes.1.1 ∙ ap (λ (rings : List PairImage). gone_on_with rings old) (ap pairs_of same ∙ i.rings)
 
 pub rings_taken : (images : List PairImage) (pairs : List PairState) → length images ≡ length pairs → map image_of (with_images images pairs) ≡ images
 rings_taken [] [] long = refl

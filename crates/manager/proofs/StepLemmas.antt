@@ -12,7 +12,7 @@ use Rattle.controller.specs.Pair.{ControllerState}
 use Rattle.manager.specs.declared.side.Side.{Side}
 use Rattle.manager.specs.declared.side.Side.TheVariants.{From, To}
 use Rattle.manager.specs.Asks.{Ask, part_asks, state_asks}
-use Rattle.manager.specs.Parts.{Begins, DoesResume, DoesSuspend, FeedsSide, GetsPart, HandsOver, HandsPart, HasFed, Sends, SetsPart, part_length, size_of}
+use Rattle.manager.specs.Parts.{Begins, DoesResume, DoesSuspend, GetsPart, HandsOver, HandsPart, HasFed, Sends, SetsPart, part_length, size_of, with_fed}
 use Rattle.manager.specs.Port.{IsAnswered, IsPortCall, PortCall, PortState, SideState, with_controller}
 use Rattle.manager.specs.Port.PortCall.{Mark}
 use Rattle.manager.proofs.AskLemmas.{asked_call, asked_more, asked_none}
@@ -57,35 +57,26 @@ hands_part {part = part} {count} {old} {mid} {new} i b there follows long get se
     let front : kept (64 * i) old.to.controller.fed.bytes ++ take count part ≡ take (64 * i + length (take count part)) state
     = (λ k. follows k ++ get.front k) ∙ sym (take-add (64 * i) count state) ∙ ap (λ n. take (64 * i + n) state) (count_is ∙ sym sent) in
     let taken = part_taken c old.to.controller set.controller b.image (64 * i) (take count part) set.result b.fed kept_long front old.to.controller.phase b.waiting (rw get.to_is at set.sets) in
-    let to = set.to_is ∙ (λ k. with_controller (taken k) (get.to_is k)) in
     record {
       asked = asked_more get.asked (rw sent at set.asked);
-      fed = record { from_is = set.from_is ∙ get.from_is; to_is = rw to; lanes = rw to };
-      loading = rw to;
-      bytes = rw (to, sent);
+      from_is = set.from_is ∙ get.from_is;
+      to_is = set.to_is ∙ (λ k. with_controller (taken k) (get.to_is k)) ∙ ap (λ n. with_fed (take (64 * i + n) state) old.to) sent;
     }
 
 -- Whole parts, one after another.
 
 pub fed_none : {I : Type 0} (moves : I → PortCall → I → Type 0) (p : PortState I) → p.to.controller.phase ≢ Running → HasFed moves 0 p p
-fed_none moves p waiting = record { asked = asked_none moves p; fed = record { from_is = refl; to_is = refl; lanes = refl }; waiting = waiting; bytes = refl }
+fed_none moves p waiting = record { asked = asked_none moves p; from_is = refl; to_fed = λ bytes. refl; waiting = waiting; bytes = refl }
 
 -- the sides are as a part needs them
 pub begins_on : {I : Type 0} {moves : I → PortCall → I → Type 0} {n : ℕ} {old new : PortState I} → Begins old → HasFed moves n old new → Begins new
 begins_on b h = record {
-  suspended = rw h.fed.from_is b.suspended;
+  suspended = rw h.from_is b.suspended;
   waiting = h.waiting;
-  image = rw h.fed.from_is b.image;
-  fed = h.fed.lanes ∙ rw h.fed.from_is b.fed;
-  from_quiet = rw h.fed.from_is b.from_quiet;
-  to_quiet = rw h.fed.to_is b.to_quiet;
-}
-
-feeds_more : {I : Type 0} {old mid new : PortState I} → FeedsSide old mid → FeedsSide mid new → FeedsSide old new
-feeds_more {I} {old} {mid} {new} p q = record {
-  from_is = q.from_is ∙ p.from_is;
-  to_is = q.to_is ∙ ap (λ (s : SideState). with_controller (record s.controller { phase = new.to.controller.phase; fed = new.to.controller.fed }) s) p.to_is;
-  lanes = q.lanes ∙ p.lanes;
+  image = rw h.from_is b.image;
+  fed = ap (λ (s : SideState). s.controller.fed.lanes) (h.to_fed []) ∙ rw h.from_is b.fed;
+  from_quiet = rw h.from_is b.from_quiet;
+  to_quiet = rw (ap (λ (s : SideState). s.controller.pairs) (h.to_fed [])) b.to_quiet;
 }
 
 kept_some : (offset : ℕ) (bytes : List ℕ) → 0 < offset → kept offset bytes ≡ bytes
@@ -102,15 +93,16 @@ length-whole_parts a zero = refl
 length-whole_parts a (suc n) = omega (arith, length-whole_parts (a + 1) n)
 
 pub fed_next : {I : Type 0} {moves : I → PortCall → I → Type 0} {old mid new : PortState I} (n : ℕ) → HasFed moves n old mid → HandsPart moves n mid new → part_length n mid.from.controller ≡ 64 → HasFed moves (n + 1) old new
-fed_next {old = old} {mid} {new} n h p whole = record {
+fed_next {old = old} {mid} n h p whole = record {
   asked = rw (add-one, parts_more 0 n n (omega arith)) (asked_more h.asked (rw whole at p.asked));
-  fed = feeds_more h.fed p.fed;
-  waiting = λ running. cc;
-  bytes = kept_some (64 * (n + 1)) new.to.controller.fed.bytes (omega arith) ∙ p.bytes ∙ ap (λ m. take m (state_bytes mid.from.controller)) (omega (arith, whole)) ∙ ap (λ (s : SideState). take (64 * (n + 1)) (state_bytes s.controller)) h.fed.from_is;
+  from_is = p.from_is ∙ h.from_is;
+  to_fed = λ bytes. ap (with_fed bytes) p.to_is ∙ h.to_fed bytes;
+  waiting = rw p.to_is (λ running. cc);
+  bytes = rw p.to_is (kept_some (64 * (n + 1)) _ (omega arith) ∙ ap (λ m. take m (state_bytes mid.from.controller)) (omega (arith, whole)) ∙ ap (λ (s : SideState). take (64 * (n + 1)) (state_bytes s.controller)) h.from_is);
 }
 
 pub size_kept : {I : Type 0} {moves : I → PortCall → I → Type 0} {n : ℕ} {old new : PortState I} → HasFed moves n old new → size_of new.from.controller ≡ size_of old.from.controller
-size_kept h = ap (λ (s : SideState). size_of s.controller) h.fed.from_is
+size_kept h = ap (λ (s : SideState). size_of s.controller) h.from_is
 
 -- and the last one
 pub fed_last : {I : Type 0} {moves : I → PortCall → I → Type 0} {old mid new : PortState I} (n : ℕ) → Begins mid → 64 * n < size_of mid.from.controller → HasFed moves n old mid → HandsPart moves n mid new → part_length n mid.from.controller ≢ 64
@@ -122,7 +114,6 @@ fed_last {old = old} {mid} {new} n b there h p last =
     let all : 64 * n + part_length n mid.from.controller ≡ length (state_bytes mid.from.controller) = omega (arith, last, state_size mid.from.controller b.image, there) in
     record {
       asked = rw (sym (size_kept h), ← quotient) (asked_more h.asked (rw rest at p.asked));
-      fed = feeds_more h.fed p.fed;
-      loading = p.loading;
-      bytes = p.bytes ∙ ap (λ m. take m (state_bytes mid.from.controller)) all ∙ take-length (state_bytes mid.from.controller) ∙ ap (λ (s : SideState). state_bytes s.controller) h.fed.from_is;
+      from_is = p.from_is ∙ h.from_is;
+      to_is = p.to_is ∙ h.to_fed _ ∙ ap (λ bytes. with_fed bytes old.to) (ap (λ m. take m (state_bytes mid.from.controller)) all ∙ take-length (state_bytes mid.from.controller) ∙ ap (λ (s : SideState). state_bytes s.controller) h.from_is);
     }

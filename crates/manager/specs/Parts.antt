@@ -14,7 +14,7 @@ use Rattle.manager.specs.Asks.{Ask, Asked, command, copy_asks, page_asks, part_a
 use Rattle.manager.specs.Asks.Ask.{Admin}
 use Rattle.manager.specs.Move.{HasImage, IsQuiet, suspended}
 use Rattle.manager.specs.Owed.{DifferIn, TellDifference}
-use Rattle.manager.specs.Port.{IsAnswered, PortCall, PortState, side_of, with_controller, with_media_of}
+use Rattle.manager.specs.Port.{IsAnswered, PortCall, PortState, SideState, side_of, with_controller, with_media_of}
 
 -- Inside the crate: the parts of a cutover, each with what it asks for and what it leaves.
 
@@ -61,32 +61,29 @@ size_of c = image_size (length c.pairs)
 abbrev pub part_length : ℕ → ControllerState → ℕ
 part_length i c = min 64 (size_of c - 64 * i)
 
--- the controller of the destination was fed, and nothing else changed
-pub record FeedsSide {I : Type 0} (old new : PortState I) : Type 0 where
-  pub from_is : new.from ≡ old.from
-  pub to_is : new.to ≡ with_controller (record old.to.controller { phase = new.to.controller.phase; fed = new.to.controller.fed }) old.to
-  pub lanes : new.to.controller.fed.lanes ≡ old.to.controller.fed.lanes
+-- a side whose controller was fed these bytes of a state, and nothing else changed
+abbrev pub with_fed : List ℕ → SideState → SideState
+with_fed bytes side = with_controller (record side.controller { phase = phase.Loading; fed = record side.controller.fed { bytes = bytes } }) side
 
 -- so many whole parts were handed over, and the destination waits for more
 pub record HasFed {I : Type 0} (moves : I → PortCall → I → Type 0) (n : ℕ) (old new : PortState I) : Type 0 where
   pub asked : Asked moves (whole_parts n) old new
-  pub fed : FeedsSide old new
+  pub from_is : new.from ≡ old.from
+  pub to_fed : (bytes : List ℕ) → with_fed bytes new.to ≡ with_fed bytes old.to
   pub waiting : new.to.controller.phase ≢ phase.Running
   pub bytes : kept (64 * n) new.to.controller.fed.bytes ≡ take (64 * n) (state_bytes old.from.controller)
 
 -- part i was handed over, behind those before it
 pub record HandsPart {I : Type 0} (moves : I → PortCall → I → Type 0) (i : ℕ) (old new : PortState I) : Type 0 where
   pub asked : Asked moves (part_asks i (part_length i old.from.controller)) old new
-  pub fed : FeedsSide old new
-  pub loading : new.to.controller.phase ≡ phase.Loading
-  pub bytes : new.to.controller.fed.bytes ≡ take (64 * i + part_length i old.from.controller) (state_bytes old.from.controller)
+  pub from_is : new.from ≡ old.from
+  pub to_is : new.to ≡ with_fed (take (64 * i + part_length i old.from.controller) (state_bytes old.from.controller)) old.to
 
 -- the whole state was
 pub record HandsOver {I : Type 0} (moves : I → PortCall → I → Type 0) (asks : List Ask) (old new : PortState I) : Type 0 where
   pub asked : Asked moves asks old new
-  pub fed : FeedsSide old new
-  pub loading : new.to.controller.phase ≡ phase.Loading
-  pub bytes : new.to.controller.fed.bytes ≡ state_bytes old.from.controller
+  pub from_is : new.from ≡ old.from
+  pub to_is : new.to ≡ with_fed (state_bytes old.from.controller) old.to
 
 pub record DoesResume {I : Type 0} (moves : I → PortCall → I → Type 0) (side : Side) (t : ℕ) (old new : PortState I) : Type 0 where
   pub asked : Asked moves (resume_asks side t) old new

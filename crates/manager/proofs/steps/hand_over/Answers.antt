@@ -3,6 +3,9 @@ use Rattle.manager.specs.Parts.{part_length}
 use Rattle.manager.proofs.StepLemmas.{begins_on, fed_last, fed_next, length-whole_parts, size_kept}
 use Rattle.manager.proofs.steps.hand_over.Goals as goal
 
+pub hand_part-requires-clause-begins : goal.hand_part-requires-clause-begins
+hand_part-requires-clause-begins g c = begins_on c.requires.begins c.parts.invariant.fed
+
 pub hand_part-requires-clause-left : goal.hand_part-requires-clause-left
 hand_part-requires-clause-left g c = omega (arith, c.requires.begins.image.is.few, c.parts.invariant.fed.asked.left, length-whole_parts 0 c.parts.whole)
 
