@@ -1,5 +1,5 @@
 use Rattle.std.proofs.Common.{◌≡◌, ℕ, zero, suc, ◌+◌, ◌/◌, ◌%◌, List, [], ◌∷◌, ◌++◌, map, refl, sym, ap, ◌∙◌}
-use Rattle.std.specs.List.{AllByRecursion, flat_map, range_with_len}
+use Rattle.std.specs.List.{flat_map, range_with_len}
 use Rattle.std.proofs.lemmas.List.{append-nil, append_assoc, flat_map_more, map-append}
 use Rattle.nvm_model.specs.Medium.{At, marks_at}
 use Rattle.nvm_model.specs.Run.{CopiesAll, CopiesUpTo, Copy, CopyEnd}
@@ -8,8 +8,8 @@ use Rattle.manager.specs.declared.side.CopyAnswer.{CopyAnswer}
 use Rattle.manager.specs.declared.side.CopyAnswer.TheVariants.{Copied, Fault}
 use Rattle.manager.specs.declared.side.Side.{Side}
 use Rattle.manager.specs.declared.side.Side.TheVariants.{From, To}
-use Rattle.manager.specs.Asks.{Ask, asked, copy_asks, cut_over_asks, page_asks, part_asks, resume_asks, state_asks, stop_asks, stopped_asks, suspend_asks, whole_parts}
-use Rattle.manager.specs.Asks.Ask.{Copy as AskCopy, Admin, CopyPage, Mark}
+use Rattle.manager.specs.Asks.{Ask, asked, copy_asks, cut_over_asks, page_asks, part_asks, resume_asks, state_asks, stop_asks, stopped_asks, suspend_asks}
+use Rattle.manager.specs.Asks.Ask.{Copy as AskCopy}
 use Rattle.manager.specs.Port.{PortCall}
 use Rattle.manager.specs.Port.PortCall.{Copy as Copying, Admin as Commanding, CopyPage as CopyingPage, Mark as Marking}
 
@@ -41,28 +41,6 @@ asked_tail e = cc
 abbrev ComeTo : ℕ → ((Copy → List At) → List At) → List PortCall → List Ask → Type 0
 ComeTo count made calls rest = (back : List PortCall) × (map asked back ≡ rest) × ((of : Copy → List At) → all_in count of calls ≡ made of ++ all_in count of back)
 
--- no medium is called
-abbrev IsSilent : Ask → Type 0
-IsSilent (AskCopy b answer) = ⊥
-IsSilent (Admin side cmd) = Unit {0}
-IsSilent (CopyPage page) = Unit {0}
-IsSilent (Mark n) = ⊥
-
-abbrev AreSilent : List Ask → Type 0
-AreSilent asks = AllByRecursion IsSilent asks
-
-silent_more : (front back : List Ask) → AreSilent front → AreSilent back → AreSilent (front ++ back)
-silent_more [] back x y = y
-silent_more (a ∷ front) back x y = (x.0, silent_more front back x.1 y)
-
-pages_silent : (pages : List ℕ) → AreSilent (page_asks pages)
-pages_silent [] = tt
-pages_silent (page ∷ pages) = (tt, pages_silent pages)
-
-parts_silent : (k n : ℕ) → AreSilent (flat_map (λ (i : ℕ). part_asks i 64) (range_with_len k n))
-parts_silent k zero = tt
-parts_silent k (suc n) = (tt, (tt, parts_silent (k + 1) n))
-
 not_copied : (side : Side) → end_of (Fault side) ≡ BlockCopied → ⊥
 not_copied From e = cc
 not_copied To e = cc
@@ -71,13 +49,16 @@ module _ (count : ℕ) where
   then : (first second : (Copy → List At) → List At) (calls : List PortCall) (mid rest : List Ask) (p : ComeTo count first calls mid) → ComeTo count second p.0 rest → ComeTo count (λ of. first of ++ second of) calls rest
   then first second calls mid rest p q = (q.0, q.1, λ of. p.2 of ∙ ap (λ (xs : List At). first of ++ xs) (q.2 of) ∙ sym (append_assoc (first of) (second of) (all_in count of q.0)))
 
-  silent : (quiet rest : List Ask) (calls : List PortCall) → AreSilent quiet → map asked calls ≡ quiet ++ rest → ComeTo count (λ of. []) calls rest
-  silent [] rest calls x is = (calls, is, λ of. refl)
-  silent (Admin to cmd ∷ quiet) rest (Commanding side own bytes cpl new_bytes ∷ calls) x is = silent quiet rest calls x.1 (asked_tail is)
-  silent (CopyPage k ∷ quiet) rest (CopyingPage page ∷ calls) x is = silent quiet rest calls x.1 (asked_tail is)
-  silent (AskCopy b answer ∷ quiet) rest calls x is = absurd x.0
-  silent (Mark n ∷ quiet) rest calls x is = absurd x.0
-  silent _ rest _ x is = absurd cc
+  pages_copied : (pages : List ℕ) (rest : List Ask) (calls : List PortCall) → map asked calls ≡ page_asks pages ++ rest → ComeTo count (λ of. []) calls rest
+  pages_copied [] rest calls is = (calls, is, λ of. refl)
+  pages_copied (page ∷ pages) rest (CopyingPage k ∷ calls) is = pages_copied pages rest calls (asked_tail is)
+  pages_copied (page ∷ pages) rest _ is = absurd cc
+
+  -- whole parts and a last one
+  state_handed : (k n last length : ℕ) (rest : List Ask) (calls : List PortCall) → map asked calls ≡ (flat_map (λ (i : ℕ). part_asks i 64) (range_with_len k n) ++ part_asks last length) ++ rest → ComeTo count (λ of. []) calls rest
+  state_handed k zero last length rest (Commanding from get bytes got new_bytes ∷ Commanding to set part cpl new_part ∷ calls) is = (calls, asked_tail (asked_tail is), λ of. refl)
+  state_handed k (suc n) last length rest (Commanding from get bytes got new_bytes ∷ Commanding to set part cpl new_part ∷ calls) is = state_handed (k + 1) n last length rest calls (asked_tail (asked_tail is))
+  state_handed k _ last length rest _ is = absurd cc
 
   copied : (b : ℕ) (answer : CopyAnswer) (rest : List Ask) (calls : List PortCall) → map asked calls ≡ AskCopy b answer ∷ rest → (copy : Copy) × (copy.block ≡ b) × (copy.ended ≡ end_of answer) × ComeTo count (λ of. of copy) calls rest
   copied b answer rest (Copying k bytes how ∷ calls) is =
@@ -129,20 +110,19 @@ module _ (count : ℕ) where
 pub record AreMoveCalls (count : ℕ) (calls : List PortCall) (copies : List Copy) : Type 0 where
   pub all : (of : Copy → List At) → all_in count of calls ≡ marks_at count 1 ++ (flat_map of copies ++ marks_at count 2)
 
-between : (count : ℕ) (copies : List Copy) (quiet mid : List Ask) (side : Side) (calls : List PortCall) (s : ComeTo count (λ of. marks_at count 1) calls mid) →
-    ComeTo count (λ of. flat_map of copies) s.0 (quiet ++ resume_asks side 0) → AreSilent quiet → AreMoveCalls count calls copies
-between count copies quiet mid side calls s made x =
-    let q = silent count quiet (resume_asks side 0) made.0 x made.1 in
-    record { all = λ of. s.2 of ∙ ap (λ (xs : List At). marks_at count 1 ++ xs) (made.2 of ∙ ap (λ (xs : List At). flat_map of copies ++ xs) (q.2 of ∙ resumed count side q.0 q.1 of)) }
+between : (count : ℕ) (copies : List Copy) (calls : List PortCall) (mid rest : List Ask) (s : ComeTo count (λ of. marks_at count 1) calls mid) (made : ComeTo count (λ of. flat_map of copies) s.0 rest) →
+    ((of : Copy → List At) → all_in count of made.0 ≡ marks_at count 2) → AreMoveCalls count calls copies
+between count copies calls mid rest s made last = record { all = λ of. s.2 of ∙ ap (λ (xs : List At). marks_at count 1 ++ xs) (made.2 of ∙ ap (λ (xs : List At). flat_map of copies ++ xs) (last of)) }
 
 pub cut_calls : (count : ℕ) (blocks pages : List ℕ) (size : ℕ) (calls : List PortCall) → map asked calls ≡ cut_over_asks 0 blocks pages size → (copies : List Copy) × CopiesAll blocks copies × AreMoveCalls count calls copies
 cut_calls count blocks pages size calls is =
-    let quiet = page_asks pages ++ state_asks size in
-    let x = silent_more (page_asks pages) (state_asks size) (pages_silent pages) (silent_more (whole_parts (size / 64)) (part_asks (size / 64) (size % 64)) (parts_silent 0 (size / 64)) (tt, (tt, tt))) in
-    let mid = copy_asks blocks ++ (page_asks pages ++ (state_asks size ++ resume_asks To 0)) in
+    let handing = state_asks size ++ resume_asks To 0 in
+    let mid = copy_asks blocks ++ (page_asks pages ++ handing) in
     let s = suspended count mid calls is in
-    let made = all_copied count blocks (page_asks pages ++ (state_asks size ++ resume_asks To 0)) s.0 s.1 in
-    (made.0, made.1, between count made.0 quiet mid To calls s (made.2.0, made.2.1 ∙ sym (append_assoc (page_asks pages) (state_asks size) (resume_asks To 0)), made.2.2) x)
+    let made = all_copied count blocks (page_asks pages ++ handing) s.0 s.1 in
+    let paged = pages_copied count pages handing made.2.0 made.2.1 in
+    let handed = state_handed count 0 (size / 64) (size / 64) (size % 64) (resume_asks To 0) paged.0 paged.1 in
+    (made.0, made.1, between count made.0 calls mid (page_asks pages ++ handing) s made.2 (λ of. paged.2 of ∙ handed.2 of ∙ resumed count To handed.0 handed.1 of))
 
 pub stopped_calls : (count : ℕ) (front : List ℕ) (b : ℕ) (others : List ℕ) (side : Side) (calls : List PortCall) → map asked calls ≡ stopped_asks 0 front b side ++ resume_asks From 0 →
     (copies : List Copy) × CopiesUpTo (front ++ b ∷ others) copies × AreMoveCalls count calls copies
@@ -150,4 +130,4 @@ stopped_calls count front b others side calls is =
     let mid = stop_asks front b side ++ resume_asks From 0 in
     let s = suspended count mid calls is in
     let made = some_copied count front b others side (resume_asks From 0) s.0 (s.1 ∙ append_assoc (copy_asks front) (AskCopy b (Fault side) ∷ []) (resume_asks From 0)) in
-    (made.0, made.1, between count made.0 [] mid From calls s made.2 tt)
+    (made.0, made.1, between count made.0 calls mid (resume_asks From 0) s made.2 (resumed count From made.2.0 made.2.1))

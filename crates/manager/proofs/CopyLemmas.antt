@@ -35,23 +35,19 @@ one_fewer count place rest from to there d =
     }
 
 -- the same of sides as they are told, before and after a block went over
-told_fewer : (count b : ℕ) (rest bytes : List ℕ) (from new_from to new_to : Option (List (List ℕ))) → b < count
+pub told_fewer : (count b : ℕ) (rest bytes : List ℕ) (from new_from to new_to : Option (List (List ℕ))) → b < count
     → StayTold (λ bs cs. (cs ≡ bs) × (bytes ≡ slice_index_or bs b [])) from new_from → StayTold (λ bs cs. cs ≡ slice_set bs b bytes) to new_to
     → TellDifference count (b ∷ rest) from to → TellDifference count rest new_from new_to
 told_fewer count b rest bytes None None to new_to there read written d = tt
-told_fewer count b rest bytes None (Some y) to new_to there read written d = absurd read
-told_fewer count b rest bytes (Some from) None to new_to there read written d = absurd read
 told_fewer count b rest bytes (Some from) (Some y) None None there read written d = tt
-told_fewer count b rest bytes (Some from) (Some y) None (Some z) there read written d = absurd written
-told_fewer count b rest bytes (Some from) (Some y) (Some to) None there read written d = absurd written
 told_fewer count b rest bytes (Some from) (Some y) (Some to) (Some z) there read written d = rw (written, read.1, read.0) (one_fewer count b rest from to there d)
+told_fewer count b rest bytes _ _ _ _ there read written d = search
 
 -- what is told and stays
 told_same : {B : Type 0} {R : B → B → Type 0} (old new : Option B) → ((x y : B) → R x y → y ≡ x) → StayTold R old new → new ≡ old
 told_same None None same stay = refl
-told_same None (Some y) same stay = absurd stay
-told_same (Some x) None same stay = absurd stay
 told_same (Some x) (Some y) same stay = ap Some (same x y stay)
+told_same _ _ same stay = absurd stay
 
 -- Where they differ in no place they are the same.
 pub none_differs : (count : ℕ) (from to : List (List ℕ)) → DifferIn count [] from to → to ≡ from
@@ -71,7 +67,7 @@ pub none_copied : {I : Type 0} (moves : I → PortCall → I → Type 0) (p : Po
 none_copied moves p = record { asked = asked_none moves p; fewer = λ rest d. d; from_later = omega arith; to_later = omega arith; from_is = refl; to_is = refl }
 
 -- one was tried
-one_tried : {I : Type 0} {moves : I → PortCall → I → Type 0} {answer : CopyAnswer} {done : List ℕ} {old new : PortState I} (b : ℕ) (bytes : List ℕ) → IsPortCall moves old (Copy b bytes answer) new
+pub one_tried : {I : Type 0} {moves : I → PortCall → I → Type 0} {answer : CopyAnswer} {done : List ℕ} {old new : PortState I} (b : ℕ) (bytes : List ℕ) → IsPortCall moves old (Copy b bytes answer) new
     → ((rest : List ℕ) → TellDifference old.count (done ++ rest) old.from.blocks old.to.blocks → TellDifference old.count rest new.from.blocks new.to.blocks) → DoesCopy moves (AskCopy b answer ∷ []) done old new
 one_tried {answer = answer} {old = old} {new} b bytes c fewer = record {
   asked = asked_call (Copy b bytes answer) c;
@@ -82,11 +78,7 @@ one_tried {answer = answer} {old = old} {new} b bytes c fewer = record {
   to_is = c.does.to_is;
 }
 
--- it went over
-pub one_copied : {I : Type 0} {moves : I → PortCall → I → Type 0} {old new : PortState I} (b : ℕ) (bytes : List ℕ) → IsPortCall moves old (Copy b bytes Copied) new → DoesCopy moves (copy_asks (b ∷ [])) (b ∷ []) old new
-one_copied {old = old} {new} b bytes c = one_tried b bytes c (λ rest d. told_fewer old.count b rest bytes old.from.blocks new.from.blocks old.to.blocks new.to.blocks c.does.there c.does.read c.does.written d)
-
--- or it didn't
+-- and it failed
 pub one_stopped : {I : Type 0} {moves : I → PortCall → I → Type 0} {old new : PortState I} (b : ℕ) (bytes : List ℕ) (side : Side) → IsPortCall moves old (Copy b bytes (Fault side)) new → DoesStop moves (b ∷ []) side old new
 one_stopped {old = old} {new} b bytes side c =
     let from = told_same old.from.blocks new.from.blocks (λ x y both. both.0) c.does.read in

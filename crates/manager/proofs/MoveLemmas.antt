@@ -15,7 +15,7 @@ use Rattle.manager.specs.declared.side.Side.TheVariants.{To}
 use Rattle.manager.specs.Asks.{Ask, Asked, copy_asks, cut_over_asks, page_asks, part_asks, state_asks, whole_parts}
 use Rattle.manager.specs.Asks.Ask.{Copy, CopyPage, Mark}
 use Rattle.manager.specs.Move.{Covers, Fits, HasImage, HoldsSame, LeavesSource, ManagerState, MayCutOver, give_up_asks, gone_on_with, suspended}
-use Rattle.manager.specs.Owed.{DifferIn, TellDifference, TellSame, places_of}
+use Rattle.manager.specs.Owed.{places_of}
 use Rattle.manager.specs.Parts.{DoesCopy, DoesPages, DoesResume, DoesStop, DoesSuspend, HandsOver, size_of, with_fed}
 use Rattle.manager.specs.Port.{PortCall, PortState, SideState, with_media_of}
 use Rattle.manager.proofs.AskLemmas.{asked_more}
@@ -57,17 +57,8 @@ module _ {I : Type 0} {moves : I → PortCall → I → Type 0} {t : ℕ} {s0 s1
   pub cut_asked : Asked moves (cut_over_asks t (places_of m.blocks) (places_of m.pages) (image_size (length s0.from.controller.pairs))) s0 s5
   cut_asked = asked_more a.asked (asked_more b.asked (asked_more p.asked (asked_more (rw (ap size_of controller_3) at h.asked) r.asked)))
 
-  pub source_left : LeavesSource s0.from s5.from
-  source_left = record { is = rw from_5 (b.from_is ∙ ap (λ (s : SideState). record s { faults = s2.from.faults }) a.from_is) }
-
-  same_blocks : TellDifference m.set.blocks (places_of m.blocks) s0.from.blocks s0.to.blocks → TellSame s5.from.blocks s5.to.blocks
-  same_blocks d = rw (from_5, r.sides.1, h.to_is, p.to_is) (none_told_differs s1.count s2.from.blocks s2.to.blocks (b.fewer [] (rw (append-nil, a.from_is, a.to_is, a.asked.count, fits.blocks) d)))
-
-  same_pages : DifferIn m.set.ram_pages (places_of m.pages) s0.from.pages s0.to.pages → s5.to.pages ≡ s5.from.pages
-  same_pages d = rw (r.sides.0, h.from_is, r.sides.1, h.to_is) (none_differs m.set.ram_pages s3.from.pages s3.to.pages (p.fewer m.set.ram_pages [] (rw (append-nil, b.from_is, a.from_is, b.to_is, a.to_is) d)))
-
-  pub holds_same : HoldsSame m s0 s5
-  holds_same =
+  pub sides_after : LeavesSource s0.from s5.from × HoldsSame m s0 s5
+  sides_after =
       let source = s0.from.controller in
       let fed : ControllerState = (with_fed (state_bytes s3.from.controller) s3.to).controller in
       let to_3 : s3.to.controller ≡ s0.to.controller = rw (p.to_is, b.to_is, a.to_is) in
@@ -75,13 +66,15 @@ module _ {I : Type 0} {moves : I → PortCall → I → Type 0} {t : ℕ} {s0 s1
       let again = rw h.to_is at r.resumes in
       let goes = gone_on source fed r.controller may.image r.result again.0 whole again.1 in
       let rings : List PairImage = map image_of source.pairs in
-      let now : s5.to.controller ≡ record (gone_on_with rings s0.to.controller) { fed = s4.to.controller.fed } = rw r.sides.1 (goes ∙ rw (h.to_is, to_3)) in
-      record {
-        blocks = same_blocks;
-        pages = same_pages;
-        running = rw now;
-        state = rw (now, r.sides.0, h.from_is, controller_3) (rings_taken rings s0.to.controller.pairs (length-map source.pairs image_of ∙ sym may.lanes));
-      }
+      let now : s5.to.controller ≡ record (gone_on_with rings s0.to.controller) { fed = s4.to.controller.fed } = rw r.sides.1 (goes ∙ rw (h.to_is, to_3)) in (
+        record { is = rw from_5 (b.from_is ∙ ap (λ (s : SideState). record s { faults = s2.from.faults }) a.from_is) },
+        record {
+          blocks = λ d. rw (from_5, r.sides.1, h.to_is, p.to_is) (none_told_differs s1.count s2.from.blocks s2.to.blocks (b.fewer [] (rw (append-nil, a.from_is, a.to_is, a.asked.count, fits.blocks) d)));
+          pages = λ d. rw (r.sides.0, h.from_is, r.sides.1, h.to_is) (none_differs m.set.ram_pages s3.from.pages s3.to.pages (p.fewer m.set.ram_pages [] (rw (append-nil, b.from_is, a.from_is, b.to_is, a.to_is) d)));
+          running = rw now;
+          state = rw (now, r.sides.0, h.from_is, controller_3) (rings_taken rings s0.to.controller.pairs (length-map source.pairs image_of ∙ sym may.lanes));
+        },
+      )
 
 -- where no side was suspended, a move that is given up is marked alone
 pub marks_alone : (phase : MovePhase) (t : ℕ) → (phase ≡ Stopped → ⊥) → give_up_asks phase t ≡ Mark (3 * t + 2) ∷ []

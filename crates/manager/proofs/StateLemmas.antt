@@ -45,14 +45,12 @@ gone_on source old new i result (Some image) whole goes =
 
 pub rings_taken : (images : List PairImage) (pairs : List PairState) → length images ≡ length pairs → map image_of (with_images images pairs) ≡ images
 rings_taken [] [] long = refl
-rings_taken [] (pair ∷ pairs) long = absurd (omega (arith, long))
-rings_taken (image ∷ images) [] long = absurd (omega (arith, long))
 rings_taken (image ∷ images) (pair ∷ pairs) long = ap (λ (is : List PairImage). image ∷ is) (rings_taken images pairs (omega (arith, long)))
+rings_taken _ _ long = absurd (omega (arith, long))
 
 -- a pair that took an image
 pub rings_at : (images : List PairImage) (pairs : List PairState) (i : ℕ) (e : PairImage) (d : PairState) → i < length images → i < length pairs →
     slice_index_or (with_images images pairs) i d ≡ with_rings (slice_index_or images i e) (slice_index_or pairs i d)
-rings_at [] pairs i e d there here = absurd (omega (arith, there))
-rings_at (image ∷ images) [] i e d there here = absurd (omega (arith, here))
 rings_at (image ∷ images) (pair ∷ pairs) zero e d there here = refl
 rings_at (image ∷ images) (pair ∷ pairs) (suc i) e d there here = rings_at images pairs i e d (omega (arith, there)) (omega (arith, here))
+rings_at _ _ i e d there here = absurd (omega (arith, there, here))

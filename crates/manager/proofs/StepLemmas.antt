@@ -15,7 +15,7 @@ use Rattle.manager.specs.Asks.{Ask, part_asks, state_asks}
 use Rattle.manager.specs.Parts.{Begins, DoesResume, DoesSuspend, GetsPart, HandsOver, HandsPart, HasFed, Sends, SetsPart, part_length, size_of, with_fed}
 use Rattle.manager.specs.Port.{IsAnswered, IsPortCall, PortCall, PortState, SideState, with_controller}
 use Rattle.manager.specs.Port.PortCall.{Mark}
-use Rattle.manager.proofs.AskLemmas.{asked_call, asked_more, asked_none}
+use Rattle.manager.proofs.AskLemmas.{asked_call, asked_more}
 use Rattle.manager.proofs.StateLemmas.{part_taken, state_size}
 
 -- The parts of a cutover.
@@ -64,9 +64,6 @@ hands_part {part = part} {count} {old} {mid} {new} i b there follows long get se
     }
 
 -- Whole parts, one after another.
-
-pub fed_none : {I : Type 0} (moves : I → PortCall → I → Type 0) (p : PortState I) → p.to.controller.phase ≢ Running → HasFed moves 0 p p
-fed_none moves p waiting = record { asked = asked_none moves p; from_is = refl; to_fed = λ bytes. refl; waiting = waiting; bytes = refl }
 
 -- the sides are as a part needs them
 pub begins_on : {I : Type 0} {moves : I → PortCall → I → Type 0} {n : ℕ} {old new : PortState I} → Begins old → HasFed moves n old new → Begins new

@@ -1,22 +1,15 @@
-use Rattle.std.proofs.Common.{◌≡◌, ℕ, zero, suc, ◌<◌, All, [], ◌∷◌, get_or, length, refl, sym, ap, ◌∙◌, arith}
+use Rattle.std.proofs.Common.{◌≡◌, All, [], ◌∷◌, length, refl, sym, ap, ◌∙◌, arith}
 use Rattle.std.proofs.lemmas.List.Elements.{All-cons, All-nil}
-use Rattle.ctl_state.specs.Image.{IsPair}
 use Rattle.controller.specs.declared.controller.Phase.{Phase}
-use Rattle.controller.specs.Admin.{image_of}
-use Rattle.controller.specs.Pair.{ControllerState, IsMade, PairState, new_pair, no_pair}
+use Rattle.controller.specs.Pair.{ControllerState, IsMade, PairState}
 use Rattle.manager.specs.Move.{HasImage}
 use Rattle.manager.proofs.MoveLemmas.{has_image}
 use Rattle.manager.proofs.tests.start.Goals as goal
 
 one_pair : (c : ControllerState) (phase : Phase) → IsMade phase (record { sq = 2; cq = 2; pages = 1 } ∷ []) 2 1 c → HasImage c
-one_pair c phase made = has_image c (rw made.pairs (omega arith)) (rw made.pairs (λ i there. of i there))
-  where
-    of : (i : ℕ) → i < 1 → IsPair (image_of (get_or (new_pair 1 (record { sq = 2; cq = 2; pages = 1 }) ∷ []) i no_pair))
-    of zero there = record {
-      sq = record { at_least = omega arith; at_most = omega arith; head = omega arith; tail = omega arith };
-      cq = record { at_least = omega arith; at_most = omega arith; head = omega arith; tail = omega arith };
-    }
-    of (suc i) there = absurd (omega arith)
+one_pair c phase made = has_image c (rw made.pairs (omega arith)) (rw made.pairs (λ i there.
+    let first : i ≡ 0 = omega (arith, there) in
+    rw first (omega arith)))
 
 none_yet : (c : ControllerState) (phase : Phase) → IsMade phase (record { sq = 2; cq = 2; pages = 1 } ∷ []) 2 1 c → All (λ (p : PairState). p.commands ≡ []) c.pairs
 none_yet c phase made = rw made.pairs (All-cons (λ (p : PairState). p.commands ≡ []) _ [] refl (All-nil _))

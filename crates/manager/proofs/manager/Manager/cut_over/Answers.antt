@@ -1,7 +1,7 @@
 use Rattle.std.proofs.Common.{arith}
 use Rattle.std.proofs.lemmas.Result.{err_from_is_err_and}
 use Rattle.manager.proofs.AskLemmas.{asked_more}
-use Rattle.manager.proofs.MoveLemmas.{all_copies, all_pages, all_parts, cut_asked, holds_same, source_left, stop_left}
+use Rattle.manager.proofs.MoveLemmas.{all_copies, all_pages, all_parts, cut_asked, sides_after, stop_left}
 use Rattle.manager.proofs.manager.Manager.cut_over.Goals as goal
 
 pub returns-in_err-copy_blocks-clause-asked : goal.returns-in_err-copy_blocks-clause-asked
@@ -31,10 +31,7 @@ returns-clause-asked g c =
 pub returns-clause-sides : goal.returns-clause-sides
 returns-clause-sides g c =
     let fits = rw (← c.self.view_is) at c.requires.fits in
-    rw (← c.self.view_is) (
-      source_left _ fits c.requires.sides c.suspend.ensures c.in_ok-copy_blocks.ensures c.copy_pages.ensures c.hand_over.ensures c.resume.ensures,
-      holds_same _ fits c.requires.sides c.suspend.ensures c.in_ok-copy_blocks.ensures c.copy_pages.ensures c.hand_over.ensures c.resume.ensures,
-    )
+    rw (← c.self.view_is) (sides_after _ fits c.requires.sides c.suspend.ensures c.in_ok-copy_blocks.ensures c.copy_pages.ensures c.hand_over.ensures c.resume.ensures)
 
 pub returns-in_err-copy_blocks-clause-left : goal.returns-in_err-copy_blocks-clause-left
 returns-in_err-copy_blocks-clause-left g c = omega (arith, c.suspend.ensures.asked.left, stop_left c.self.inside.blocks c.in_err-copy_blocks.ensures)
