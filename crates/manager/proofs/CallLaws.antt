@@ -46,8 +46,9 @@ not_copied From e = cc
 not_copied To e = cc
 
 module _ (count : ℕ) where
-  then : (first second : (Copy → List At) → List At) (calls : List PortCall) (mid rest : List Ask) (p : ComeTo count first calls mid) → ComeTo count second p.0 rest → ComeTo count (λ of. first of ++ second of) calls rest
-  then first second calls mid rest p q = (q.0, q.1, λ of. p.2 of ∙ ap (λ (xs : List At). first of ++ xs) (q.2 of) ∙ sym (append_assoc (first of) (second of) (all_in count of q.0)))
+  -- some and then others
+  come_more : (first second : (Copy → List At) → List At) (calls : List PortCall) (mid rest : List Ask) (p : ComeTo count first calls mid) → ComeTo count second p.0 rest → ComeTo count (λ of. first of ++ second of) calls rest
+  come_more first second calls mid rest p q = (q.0, q.1, λ of. p.2 of ∙ ap (λ (xs : List At). first of ++ xs) (q.2 of) ∙ sym (append_assoc (first of) (second of) (all_in count of q.0)))
 
   pages_copied : (pages : List ℕ) (rest : List Ask) (calls : List PortCall) → map asked calls ≡ page_asks pages ++ rest → ComeTo count (λ of. []) calls rest
   pages_copied [] rest calls is = (calls, is, λ of. refl)
@@ -71,7 +72,7 @@ module _ (count : ℕ) where
   all_copied (b ∷ blocks) rest calls is =
       let one = copied b Copied (copy_asks blocks ++ rest) calls is in
       let more = all_copied blocks rest one.3.0 one.3.1 in
-      let come = then (λ of. of one.0) (λ of. flat_map of more.0) calls (copy_asks blocks ++ rest) rest one.3 more.2 in
+      let come = come_more (λ of. of one.0) (λ of. flat_map of more.0) calls (copy_asks blocks ++ rest) rest one.3 more.2 in
       (one.0 ∷ more.0, record { each = λ k. one.1 k ∷ more.1.each k; copied = (one.2, more.1.copied) }, come)
 
   some_copied : (front : List ℕ) (b : ℕ) (others : List ℕ) (side : Side) (rest : List Ask) (calls : List PortCall) → map asked calls ≡ copy_asks front ++ AskCopy b (Fault side) ∷ rest →
@@ -79,7 +80,7 @@ module _ (count : ℕ) where
   some_copied front b others side rest calls is =
       let good = all_copied front (AskCopy b (Fault side) ∷ rest) calls is in
       let bad = copied b (Fault side) rest good.2.0 good.2.1 in
-      let come = then (λ of. flat_map of good.0) (λ of. of bad.0) calls (AskCopy b (Fault side) ∷ rest) rest good.2 bad.3 in (
+      let come = come_more (λ of. flat_map of good.0) (λ of. of bad.0) calls (AskCopy b (Fault side) ∷ rest) rest good.2 bad.3 in (
         good.0 ++ bad.0 ∷ [],
         record {
           good = good.0;

@@ -12,8 +12,8 @@ use Rattle.manager.specs.declared.manager.MovePhase.TheVariants.{Stopped}
 use Rattle.manager.specs.declared.side.CopyAnswer.TheVariants.{Copied, Fault}
 use Rattle.manager.specs.declared.side.Side.{Side}
 use Rattle.manager.specs.declared.side.Side.TheVariants.{To}
-use Rattle.manager.specs.Asks.{Ask, Asked, copy_asks, cut_over_asks, page_asks, part_asks, state_asks, whole_parts}
-use Rattle.manager.specs.Asks.Ask.{Copy, CopyPage, Mark}
+use Rattle.manager.specs.Asks.{Ask, Asked, copy_asks, cut_over_asks, part_asks, state_asks, whole_parts}
+use Rattle.manager.specs.Asks.Ask.{Copy, Mark}
 use Rattle.manager.specs.Move.{Covers, Fits, HasImage, HoldsSame, LeavesSource, ManagerState, MayCutOver, give_up_asks, gone_on_with, suspended}
 use Rattle.manager.specs.Owed.{places_of}
 use Rattle.manager.specs.Parts.{DoesCopy, DoesPages, DoesResume, DoesStop, DoesSuspend, HandsOver, size_of, with_fed}
@@ -25,11 +25,8 @@ use Rattle.manager.proofs.StepLemmas.{length-whole_parts}
 
 -- How many calls the parts of a cutover make.
 
-pub all_copies : (owed : List Bool) → length (copy_asks (places_of owed)) ≤ length owed
-all_copies owed = omega (arith, length-map (places_of owed) (λ (b : ℕ). Copy b Copied), length-places 0 owed)
-
-pub all_pages : (owed : List Bool) → length (page_asks (places_of owed)) ≤ length owed
-all_pages owed = omega (arith, length-map (places_of owed) CopyPage, length-places 0 owed)
+pub few_asked : (ask : ℕ → Ask) (owed : List Bool) → length (map ask (places_of owed)) ≤ length owed
+few_asked ask owed = omega (arith, length-map (places_of owed) ask, length-places 0 owed)
 
 -- a state has at most 264 bytes
 pub all_parts : {I : Type 0} {moves : I → PortCall → I → Type 0} {t : ℕ} {asks : List Ask} {done pages : List ℕ} {s0 s1 s2 s3 : PortState I} → MayCutOver s0
