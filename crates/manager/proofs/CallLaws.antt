@@ -75,25 +75,6 @@ module _ (count : ℕ) where
       let come = come_more (λ of. of one.0) (λ of. flat_map of more.0) calls (copy_asks blocks ++ rest) rest one.3 more.2 in
       (one.0 ∷ more.0, record { each = λ k. one.1 k ∷ more.1.each k; copied = (one.2, more.1.copied) }, come)
 
-  some_copied : (front : List ℕ) (b : ℕ) (others : List ℕ) (side : Side) (rest : List Ask) (calls : List PortCall) → map asked calls ≡ copy_asks front ++ AskCopy b (Fault side) ∷ rest →
-      (copies : List Copy) × CopiesUpTo (front ++ b ∷ others) copies × ComeTo count (λ of. flat_map of copies) calls rest
-  some_copied front b others side rest calls is =
-      let good = all_copied front (AskCopy b (Fault side) ∷ rest) calls is in
-      let bad = copied b (Fault side) rest good.2.0 good.2.1 in
-      let come = come_more (λ of. flat_map of good.0) (λ of. of bad.0) calls (AskCopy b (Fault side) ∷ rest) rest good.2 bad.3 in (
-        good.0 ++ bad.0 ∷ [],
-        record {
-          good = good.0;
-          last = bad.0;
-          others = others;
-          copies_are = refl;
-          each = rw (map-append, append_assoc) (λ k. good.1.each k ++ bad.1 k ∷ others);
-          copied = good.1.copied;
-          failed = λ e. not_copied side (sym bad.2 ∙ e);
-        },
-        (come.0, come.1, λ of. rw (← flat_map_more of [] good.0 bad.0) (come.2 of)),
-      )
-
   suspended : (rest : List Ask) (calls : List PortCall) → map asked calls ≡ suspend_asks 0 ++ rest → ComeTo count (λ of. marks_at count 1) calls rest
   suspended rest (Commanding side cmd bytes cpl new_bytes ∷ Marking n ∷ calls) is =
       let same : n ≡ 1 = cc in
@@ -129,6 +110,19 @@ pub stopped_calls : (count : ℕ) (front : List ℕ) (b : ℕ) (others : List �
     (copies : List Copy) × CopiesUpTo (front ++ b ∷ others) copies × AreMoveCalls count calls copies
 stopped_calls count front b others side calls is =
     let mid = stop_asks front b side ++ resume_asks From 0 in
+    let last = AskCopy b (Fault side) ∷ resume_asks From 0 in
     let s = suspended count mid calls is in
-    let made = some_copied count front b others side (resume_asks From 0) s.0 (s.1 ∙ append_assoc (copy_asks front) (AskCopy b (Fault side) ∷ []) (resume_asks From 0)) in
-    (made.0, made.1, between count made.0 calls mid (resume_asks From 0) s made.2 (resumed count From made.2.0 made.2.1))
+    let good = all_copied count front last s.0 (s.1 ∙ append_assoc (copy_asks front) (AskCopy b (Fault side) ∷ []) (resume_asks From 0)) in
+    let bad = copied count b (Fault side) (resume_asks From 0) good.2.0 good.2.1 in
+    let come = come_more count (λ of. flat_map of good.0) (λ of. of bad.0) s.0 last (resume_asks From 0) good.2 bad.3 in
+    let up_to : CopiesUpTo (front ++ b ∷ others) (good.0 ++ bad.0 ∷ []) = record {
+      good = good.0;
+      last = bad.0;
+      others = others;
+      copies_are = refl;
+      each = rw (map-append, append_assoc) (λ k. good.1.each k ++ bad.1 k ∷ others);
+      copied = good.1.copied;
+      failed = λ e. not_copied side (sym bad.2 ∙ e);
+    } in
+    let made : ComeTo count (λ of. flat_map of (good.0 ++ bad.0 ∷ [])) s.0 (resume_asks From 0) = (come.0, come.1, λ of. rw (← flat_map_more of [] good.0 bad.0) (come.2 of)) in
+    (good.0 ++ bad.0 ∷ [], up_to, between count (good.0 ++ bad.0 ∷ []) calls mid (resume_asks From 0) s made (resumed count From come.0 come.1))

@@ -23,16 +23,14 @@ use Rattle.manager.proofs.AskLemmas.{asked_call, asked_more, asked_none}
 
 -- A place that holds the same at both sides needn't be among those in which they differ.
 one_fewer : (count place : ℕ) (rest : List ℕ) (from to : List (List ℕ)) → place < count → DifferIn count (place ∷ rest) from to → DifferIn count rest from (slice_set to place (slice_index_or from place []))
-one_fewer count place rest from to there d =
-    let long = d.to_long in
-    record {
-      from_long = d.from_long;
-      to_long = length-set to place (slice_index_or from place []) ∙ d.to_long;
-      same = λ i. ⊎_elim
-          (λ (here : i ≡ place). inl (get_or-set_at to place i (slice_index_or from place []) [] here (omega (arith, long, there)) ∙ ap (λ j. slice_index_or from j []) (sym here)))
-          (λ (other : i ≡ place → ⊥). rw (get_or-set_other to place i (slice_index_or from place []) [] other) (⊎_elim inl (⊎_elim (λ (at : i ≡ place). absurd (other at)) inr) (d.same i)))
-          (cases_eq i place);
-    }
+one_fewer count place rest from to there d = record {
+  from_long = d.from_long;
+  to_long = length-set to place (slice_index_or from place []) ∙ d.to_long;
+  same = λ i. ⊎_elim
+      (λ (here : i ≡ place). inl (get_or-set_at to place i (slice_index_or from place []) [] here (omega (arith, d.to_long, there)) ∙ ap (λ j. slice_index_or from j []) (sym here)))
+      (λ (other : i ≡ place → ⊥). rw (get_or-set_other to place i (slice_index_or from place []) [] other) (⊎_elim inl (⊎_elim (λ (at : i ≡ place). absurd (other at)) inr) (d.same i)))
+      (cases_eq i place);
+}
 
 -- the same of sides as they are told, before and after a block went over
 pub told_fewer : (count b : ℕ) (rest bytes : List ℕ) (from new_from to new_to : Option (List (List ℕ))) → b < count
@@ -52,9 +50,7 @@ told_same _ _ same stay = absurd stay
 -- Where they differ in no place they are the same.
 pub none_differs : (count : ℕ) (from to : List (List ℕ)) → DifferIn count [] from to → to ≡ from
 none_differs count from to d = same_lists to from (d.to_long ∙ sym d.from_long) (λ i e there.
-    let from_long = d.from_long in
-    let to_long = d.to_long in
-    get_or_default to i e [] there ∙ ⊎_elim (λ same. same) (λ among. absurd among) (d.same i) ∙ get_or_default from i [] e (omega (arith, there, from_long, to_long)))
+    get_or_default to i e [] there ∙ ⊎_elim (λ same. same) (λ among. absurd among) (d.same i) ∙ get_or_default from i [] e (omega (arith, there, d.from_long, d.to_long)))
 
 pub none_told_differs : (count : ℕ) (from to : Option (List (List ℕ))) → TellDifference count [] from to → TellSame from to
 none_told_differs count None to d = tt
@@ -126,9 +122,6 @@ stops_here rest q = record {
 }
 
 -- Pages.
-
-pub no_page : {I : Type 0} (moves : I → PortCall → I → Type 0) (p : PortState I) → DoesPages moves [] p p
-no_page moves p = record { asked = asked_none moves p; from_is = refl; to_is = refl; long = refl; fewer = λ count rest d. d }
 
 pub pages_more : {I : Type 0} {moves : I → PortCall → I → Type 0} {page : ℕ} {done : List ℕ} {old mid new : PortState I} → page < length old.from.pages
     → IsPortCall moves old (CopyPage page) mid → DoesPages moves done mid new → DoesPages moves (page ∷ done) old new

@@ -1,6 +1,5 @@
-use Rattle.std.proofs.Common.{◌≡◌, ◌≢◌, ℕ, zero, suc, ◌+◌, ◌*◌, ◌/◌, ◌%◌, ◌<◌, Bool, cond, List, [], ◌++◌, length, take, refl, sym, ap, ◌∙◌, add-one, arith}
+use Rattle.std.proofs.Common.{◌≡◌, ◌≢◌, ℕ, zero, suc, ◌+◌, ◌*◌, ◌/◌, ◌%◌, ◌<◌, Bool, cond, List, [], ◌++◌, length, take, refl, sym, ap, ◌∙◌, add-one, arith, ne_eqb}
 use Rattle.std.specs.List.{flat_map, range_with_len}
-use Rattle.std.proofs.Math.Dec.{eqb-suc-zero}
 use Rattle.std.proofs.Math.Seq.{take-add, take-length}
 use Rattle.std.proofs.lemmas.List.{length-take-le}
 use Rattle.adm_values.specs.declared.command.AdminCpl.{AdminCpl}
@@ -50,10 +49,9 @@ pub hands_part : {I : Type 0} {moves : I → PortCall → I → Type 0} {part : 
 hands_part {part = part} {count} {old} {mid} {new} i b there follows long get set =
     let c : ControllerState = old.from.controller in
     let state = state_bytes c in
-    let size = state_size c b.image in
     let count_is : count ≡ part_length i c = get.count_is in
     let sent : length (take count part) ≡ part_length i c = length-take-le count part (omega (arith, count_is, long)) ∙ count_is in
-    let kept_long = ap length follows ∙ length-take-le (64 * i) state (omega (arith, size, there)) in
+    let kept_long = ap length follows ∙ length-take-le (64 * i) state (omega (arith, state_size c b.image, there)) in
     let front : kept (64 * i) old.to.controller.fed.bytes ++ take count part ≡ take (64 * i + length (take count part)) state
     = (λ k. follows k ++ get.front k) ∙ sym (take-add (64 * i) count state) ∙ ap (λ n. take (64 * i + n) state) (count_is ∙ sym sent) in
     let taken = part_taken c old.to.controller set.controller b.image (64 * i) (take count part) set.result b.fed kept_long front old.to.controller.phase b.waiting (rw get.to_is at set.sets) in
@@ -63,9 +61,7 @@ hands_part {part = part} {count} {old} {mid} {new} i b there follows long get se
       to_is = set.to_is ∙ (λ k. with_controller (taken k) (get.to_is k)) ∙ ap (λ n. with_fed (take (64 * i + n) state) old.to) sent;
     }
 
--- Whole parts, one after another.
-
--- the sides are as a part needs them
+-- Whole parts, one after another: the sides are as the next one needs them.
 pub begins_on : {I : Type 0} {moves : I → PortCall → I → Type 0} {n : ℕ} {old new : PortState I} → Begins old → HasFed moves n old new → Begins new
 begins_on b h = record {
   suspended = rw h.from_is b.suspended;
@@ -77,8 +73,7 @@ begins_on b h = record {
 }
 
 kept_some : (offset : ℕ) (bytes : List ℕ) → 0 < offset → kept offset bytes ≡ bytes
-kept_some zero bytes some = absurd (omega (arith, some))
-kept_some (suc n) bytes some = ap (λ (b : Bool). cond b [] bytes) (eqb-suc-zero n)
+kept_some offset bytes some = ap (λ (b : Bool). cond b [] bytes) (ne_eqb offset 0 (λ none. absurd (omega (arith, some, none))))
 
 -- a whole part more
 parts_more : (a n i : ℕ) → a + n ≡ i → flat_map (λ (j : ℕ). part_asks j 64) (range_with_len a (suc n)) ≡ flat_map (λ (j : ℕ). part_asks j 64) (range_with_len a n) ++ part_asks i 64

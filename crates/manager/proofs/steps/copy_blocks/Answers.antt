@@ -8,14 +8,11 @@ use Rattle.manager.proofs.steps.copy_blocks.Goals.{then-contains+in_ok-copy_bloc
 pub returns-in_err-copy_block : goal.returns-in_err-copy_block
 returns-in_err-copy_block g c =
     let fault = err_from_is_err_and c.from_residual.result c.from_residual.ensures.1 in
-    let owed = sym c.contains.ensures ∙ c.if-contains.true in
-    rw (fault.1, fault.2) (c.loop-b.invariant.all _ (Err c.in_err-copy_block.field-0.0) (rw (drop_more c.args.owed.now c.loop-b.b false (omega arith), owed) (stops_here _ c.in_err-copy_block.ensures)))
+    rw (fault.1, fault.2) (c.loop-b.invariant.all _ (Err c.in_err-copy_block.field-0.0) (rw (drop_more c.args.owed.now c.loop-b.b false (omega arith), sym c.contains.ensures ∙ c.if-contains.true) (stops_here _ c.in_err-copy_block.ensures)))
 
 pub loop-b-preserved : goal.loop-b-preserved
 loop-b-preserved g c =
-    let owed = c.args.owed.now in
-    let b = c.loop-b.b in
-    let here = drop_more owed b false (omega arith) in
+    let here = drop_more c.args.owed.now c.loop-b.b false (omega arith) in
     let was = c.loop-b.invariant in
     elim c.if-contains.branch [
       | then-contains+in_ok-copy_block w ↦

@@ -1,7 +1,8 @@
-use Rattle.std.proofs.Common.{false, length, sym, ap, ◌∙◌, arith}
+use Rattle.std.proofs.Common.{false, length, refl, sym, ap, ◌∙◌, arith}
 use Rattle.std.proofs.lemmas.List.{drop_all, drop_more, length-set}
 use Rattle.manager.specs.Port.{SideState}
-use Rattle.manager.proofs.CopyLemmas.{no_page, pages_more}
+use Rattle.manager.proofs.AskLemmas.{asked_none}
+use Rattle.manager.proofs.CopyLemmas.{pages_more}
 use Rattle.manager.proofs.steps.copy_pages.Goals as goal
 use Rattle.manager.proofs.steps.copy_pages.Goals.{then-contains, else-contains}
 
@@ -28,4 +29,4 @@ loop-page-preserved g c =
     ]
 
 pub returns : goal.returns
-returns g c = c.loop-page.invariant.all _ (rw (drop_all c.loop-page.page c.args.owed.now (omega arith)) (no_page _ _))
+returns g c = c.loop-page.invariant.all _ (rw (drop_all c.loop-page.page c.args.owed.now (omega arith)) (record { asked = asked_none _ _; from_is = refl; to_is = refl; long = refl; fewer = λ count rest d. d }))

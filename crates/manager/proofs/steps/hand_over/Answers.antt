@@ -1,4 +1,4 @@
-use Rattle.std.proofs.Common.{◌≡◌, ◌≢◌, sym, ◌∙◌, arith}
+use Rattle.std.proofs.Common.{◌≡◌, sym, ◌∙◌, arith}
 use Rattle.manager.specs.Parts.{part_length}
 use Rattle.manager.proofs.StepLemmas.{begins_on, fed_last, fed_next, length-whole_parts, size_kept}
 use Rattle.manager.proofs.steps.hand_over.Goals as goal
@@ -21,5 +21,4 @@ parts-preserved g c =
 pub returns : goal.returns
 returns g c =
     let fed = c.parts.invariant.fed in
-    let last : part_length c.parts.whole (g.P.WorkPort.state c.parts.port).from.controller ≢ 64 = λ is. c.parts-test.false (c.hand_part.ensures.count ∙ is) in
-    fed_last c.parts.whole (begins_on c.requires.begins fed) (omega (arith, size_kept fed, c.parts.invariant.there)) fed c.hand_part.ensures.handed last
+    fed_last c.parts.whole (begins_on c.requires.begins fed) (omega (arith, size_kept fed, c.parts.invariant.there)) fed c.hand_part.ensures.handed (λ is. c.parts-test.false (c.hand_part.ensures.count ∙ is))

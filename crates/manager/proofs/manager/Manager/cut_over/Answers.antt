@@ -27,13 +27,11 @@ resume-requires-clause-left g c =
 
 pub returns-clause-asked : goal.returns-clause-asked
 returns-clause-asked g c =
-    let fits = rw (← c.self.view_is) at c.requires.fits in
-    rw (← c.self.view_is) (cut_asked _ fits c.requires.sides c.suspend.ensures c.in_ok-copy_blocks.ensures c.copy_pages.ensures c.hand_over.ensures c.resume.ensures)
+    rw (← c.self.view_is) (cut_asked _ (rw (← c.self.view_is) at c.requires.fits) c.requires.sides c.suspend.ensures c.in_ok-copy_blocks.ensures c.copy_pages.ensures c.hand_over.ensures c.resume.ensures)
 
 pub returns-clause-sides : goal.returns-clause-sides
 returns-clause-sides g c =
-    let fits = rw (← c.self.view_is) at c.requires.fits in
-    rw (← c.self.view_is) (sides_after _ fits c.requires.sides c.suspend.ensures c.in_ok-copy_blocks.ensures c.copy_pages.ensures c.hand_over.ensures c.resume.ensures)
+    rw (← c.self.view_is) (sides_after _ (rw (← c.self.view_is) at c.requires.fits) c.requires.sides c.suspend.ensures c.in_ok-copy_blocks.ensures c.copy_pages.ensures c.hand_over.ensures c.resume.ensures)
 
 pub returns-in_err-copy_blocks-clause-left : goal.returns-in_err-copy_blocks-clause-left
 returns-in_err-copy_blocks-clause-left g c = omega (arith, c.suspend.ensures.asked.left, stop_left c.self.inside.blocks c.in_err-copy_blocks.ensures)
