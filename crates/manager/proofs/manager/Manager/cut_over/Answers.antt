@@ -1,7 +1,5 @@
-use Rattle.std.proofs.Common.{ℕ, arith}
+use Rattle.std.proofs.Common.{arith}
 use Rattle.std.proofs.lemmas.Result.{err_from_is_err_and}
-use Rattle.manager.specs.declared.side.CopyAnswer.TheVariants.{Copied}
-use Rattle.manager.specs.Asks.Ask.{Copy, CopyPage}
 use Rattle.manager.proofs.AskLemmas.{asked_more}
 use Rattle.manager.proofs.MoveLemmas.{all_parts, cut_asked, few_asked, sides_after, stop_left}
 use Rattle.manager.proofs.manager.Manager.cut_over.Goals as goal
@@ -14,16 +12,16 @@ returns-in_err-copy_blocks-clause-asked g c =
 
 pub copy_pages-requires-clause-left : goal.copy_pages-requires-clause-left
 copy_pages-requires-clause-left g c =
-    omega (arith, c.requires.fits.calls, c.suspend.ensures.asked.left, c.in_ok-copy_blocks.ensures.asked.left, few_asked (λ (b : ℕ). Copy b Copied) c.self.inside.blocks)
+    omega (arith, few_asked, c.requires.fits.calls, c.suspend.ensures.asked.left, c.in_ok-copy_blocks.ensures.asked.left)
 
 pub hand_over-requires-clause-left : goal.hand_over-requires-clause-left
 hand_over-requires-clause-left g c =
-    omega (arith, c.requires.fits.calls, c.suspend.ensures.asked.left, c.in_ok-copy_blocks.ensures.asked.left, few_asked (λ (b : ℕ). Copy b Copied) c.self.inside.blocks, c.copy_pages.ensures.asked.left, few_asked CopyPage c.self.inside.pages)
+    omega (arith, few_asked, c.requires.fits.calls, c.suspend.ensures.asked.left, c.in_ok-copy_blocks.ensures.asked.left, c.copy_pages.ensures.asked.left)
 
 pub resume-requires-clause-left : goal.resume-requires-clause-left
 resume-requires-clause-left g c =
     let parts = all_parts c.requires.sides c.suspend.ensures c.in_ok-copy_blocks.ensures c.copy_pages.ensures in
-    omega (arith, c.requires.fits.calls, c.suspend.ensures.asked.left, c.in_ok-copy_blocks.ensures.asked.left, few_asked (λ (b : ℕ). Copy b Copied) c.self.inside.blocks, c.copy_pages.ensures.asked.left, few_asked CopyPage c.self.inside.pages, c.hand_over.ensures.asked.left, parts)
+    omega (arith, few_asked, c.requires.fits.calls, c.suspend.ensures.asked.left, c.in_ok-copy_blocks.ensures.asked.left, c.copy_pages.ensures.asked.left, c.hand_over.ensures.asked.left, parts)
 
 pub returns-clause-asked : goal.returns-clause-asked
 returns-clause-asked g c =
@@ -39,4 +37,4 @@ returns-in_err-copy_blocks-clause-left g c = omega (arith, c.suspend.ensures.ask
 pub returns-clause-left : goal.returns-clause-left
 returns-clause-left g c =
     let parts = all_parts c.requires.sides c.suspend.ensures c.in_ok-copy_blocks.ensures c.copy_pages.ensures in
-    omega (arith, c.suspend.ensures.asked.left, c.in_ok-copy_blocks.ensures.asked.left, few_asked (λ (b : ℕ). Copy b Copied) c.self.inside.blocks, c.copy_pages.ensures.asked.left, few_asked CopyPage c.self.inside.pages, c.hand_over.ensures.asked.left, parts, c.resume.ensures.asked.left)
+    omega (arith, few_asked, c.suspend.ensures.asked.left, c.in_ok-copy_blocks.ensures.asked.left, c.copy_pages.ensures.asked.left, c.hand_over.ensures.asked.left, parts, c.resume.ensures.asked.left)
