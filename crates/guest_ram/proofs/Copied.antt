@@ -1,5 +1,5 @@
 use Rattle.std.proofs.Common.{◌≡◌, ℕ, zero, suc, ◌+◌, ◌-◌, ◌<◌, ◌≤◌, List, [], ◌∷◌, ◌++◌, length, take, set, get_or, map, refl, sym, ap, ◌∙◌, arith, zero-add, drop, length-append}
-use Rattle.std.proofs.lemmas.List.{length-set, map-set, set-get_or, set-append_left, set-append_right, get_or-map, get_or_default, take_at, take_all, take_more, take_more_set}
+use Rattle.std.proofs.lemmas.List.{length-set, map-set, set-get_or, set-append_left, set-append_right, get_or-map, get_or_default, take_at}
 use Rattle.std.proofs.lemmas.List.Concat.{get_or-flat_map}
 use Rattle.std.proofs.Math.Seq.{take-append_seam, drop-append_seam}
 use Rattle.nvm_model.specs.Memory.{page_at}

@@ -13,15 +13,11 @@ pub asked_call : {I : Type 0} {moves : I → PortCall → I → Type 0} {old new
 asked_call {I} {moves} {old} {new} c is = record { calls = c ∷ []; run = chain_one (IsPortCall moves) old c new is; inside = chain_one moves old.inside c new.inside is.moved; asks_are = refl; count = is.count; left = is.left }
 
 pub asked_more : {I : Type 0} {moves : I → PortCall → I → Type 0} {first second : List Ask} {old mid new : PortState I} → Asked moves first old mid → Asked moves second mid new → Asked moves (first ++ second) old new
-asked_more {I} {moves} {first} {second} {old} {mid} {new} p q =
-    let long = length-append first second in
-    let p_left = p.left in
-    let q_left = q.left in
-    record {
-      calls = p.calls ++ q.calls;
-      run = chain_more (IsPortCall moves) old p.calls mid q.calls new p.run q.run;
-      inside = chain_more moves old.inside p.calls mid.inside q.calls new.inside p.inside q.inside;
-      asks_are = map-append asked p.calls q.calls ∙ (λ k. p.asks_are k ++ q.asks_are k);
-      count = q.count ∙ p.count;
-      left = omega (arith, long, p_left, q_left);
-    }
+asked_more {moves = moves} {first} {second} {old} {mid} {new} p q = record {
+  calls = p.calls ++ q.calls;
+  run = chain_more (IsPortCall moves) old p.calls mid q.calls new p.run q.run;
+  inside = chain_more moves old.inside p.calls mid.inside q.calls new.inside p.inside q.inside;
+  asks_are = map-append asked p.calls q.calls ∙ (λ k. p.asks_are k ++ q.asks_are k);
+  count = q.count ∙ p.count;
+  left = omega (arith, length-append first second, p.left, q.left);
+}

@@ -1,6 +1,5 @@
 pub mod AskLemmas
 pub mod CallLaws
-pub mod CommandLemmas
 pub mod CopyLemmas
 pub mod StateLemmas
 pub mod StepLemmas

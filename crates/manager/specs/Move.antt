@@ -1,6 +1,5 @@
 use Rattle.std.specs.Prelude.{◌≡◌, ◌≢◌, ℕ, ◌+◌, ◌*◌, ◌^◌, ◌≤◌, All, Bool, List, [], ◌∷◌, ◌++◌, Result, Ok, Err, length, map, replicate}
 use Rattle.mig_base.specs.Count.{RisesBy}
-use Rattle.nvm_model.specs.Medium.{StayTold}
 use Rattle.ctl_state.specs.declared.image.Image.{Image}
 use Rattle.ctl_state.specs.declared.image.PairState.{PairState as PairImage}
 use Rattle.ctl_state.specs.Image.{IsImage, pairs_of}
@@ -91,10 +90,9 @@ IsCutOver moves t m (Err fault) old new = (front : List ℕ) × (last : ℕ) × 
 abbrev pub suspended : ControllerState → ControllerState
 suspended c = record c { phase = phase.Suspended; fed = record { lanes = length c.pairs; bytes = [] } }
 
--- The source is suspended, and else as it was.
+-- The source is suspended, and else as it was but for its count of faults.
 pub record LeavesSource (old new : SideState) : Type 0 where
-  pub is : new ≡ with_controller (suspended old.controller) (with_media_of new old)
-  pub blocks : StayTold (λ bs cs. cs ≡ bs) old.blocks new.blocks
+  pub is : new ≡ record old { controller = suspended old.controller; faults = new.faults }
 
 -- a controller that goes on with these rings
 abbrev pub gone_on_with : List PairImage → ControllerState → ControllerState

@@ -1,6 +1,5 @@
 use Rattle.std.specs.Prelude.{◌≡◌, ◌≢◌, ℕ, ◌+◌, ◌-◌, ◌*◌, ◌≤◌, List, [], ◌∷◌, ◌++◌, Result, Ok, Err, drop, length, min, take}
 use Rattle.mig_base.specs.Count.{RisesBy}
-use Rattle.nvm_model.specs.Medium.{StayTold}
 use Rattle.adm_values.specs.declared.command.AdminCpl.{AdminCpl}
 use Rattle.adm_values.specs.declared.command.What.{What}
 use Rattle.adm_values.specs.declared.command.What.TheVariants.{SetState, GetState}
@@ -15,7 +14,7 @@ use Rattle.manager.specs.Asks.{Ask, Asked, command, copy_asks, page_asks, part_a
 use Rattle.manager.specs.Asks.Ask.{Admin}
 use Rattle.manager.specs.Move.{HasImage, IsQuiet, suspended}
 use Rattle.manager.specs.Owed.{DifferIn, TellDifference}
-use Rattle.manager.specs.Port.{IsAnswered, PortCall, PortState, side_of, with_controller, with_media_of}
+use Rattle.manager.specs.Port.{IsAnswered, PortCall, PortState, SideState, side_of, with_controller, with_media_of}
 
 -- Inside the crate: the parts of a cutover, each with what it asks for and what it leaves.
 
@@ -24,14 +23,13 @@ pub record DoesSuspend {I : Type 0} (moves : I → PortCall → I → Type 0) (t
   pub from_is : new.from ≡ with_controller (suspended old.from.controller) old.from
   pub to_is : new.to ≡ old.to
 
--- These blocks were copied. In which the sides may have differed besides, they still may.
+-- These blocks were copied, and the source's are as they were. In which the sides may have differed besides, they still may.
 pub record DoesCopy {I : Type 0} (moves : I → PortCall → I → Type 0) (asks : List Ask) (done : List ℕ) (old new : PortState I) : Type 0 where
   pub asked : Asked moves asks old new
-  pub kept : StayTold (λ bs cs. cs ≡ bs) old.from.blocks new.from.blocks
   pub fewer : (rest : List ℕ) → TellDifference old.count (done ++ rest) old.from.blocks old.to.blocks → TellDifference old.count rest new.from.blocks new.to.blocks
   pub from_later : old.from.faults ≤ new.from.faults
   pub to_later : old.to.faults ≤ new.to.faults
-  pub from_is : new.from ≡ with_media_of new.from old.from
+  pub from_is : new.from ≡ record old.from { faults = new.from.faults }
   pub to_is : new.to ≡ with_media_of new.to old.to
 
 -- a copy failed after these, and others of all were left
@@ -63,32 +61,29 @@ size_of c = image_size (length c.pairs)
 abbrev pub part_length : ℕ → ControllerState → ℕ
 part_length i c = min 64 (size_of c - 64 * i)
 
--- the controller of the destination was fed, and nothing else changed
-pub record FeedsSide {I : Type 0} (old new : PortState I) : Type 0 where
-  pub from_is : new.from ≡ old.from
-  pub to_is : new.to ≡ with_controller (record old.to.controller { phase = new.to.controller.phase; fed = new.to.controller.fed }) old.to
-  pub lanes : new.to.controller.fed.lanes ≡ old.to.controller.fed.lanes
+-- a side whose controller was fed these bytes of a state, and nothing else changed
+abbrev pub with_fed : List ℕ → SideState → SideState
+with_fed bytes side = with_controller (record side.controller { phase = phase.Loading; fed = record side.controller.fed { bytes = bytes } }) side
 
 -- so many whole parts were handed over, and the destination waits for more
 pub record HasFed {I : Type 0} (moves : I → PortCall → I → Type 0) (n : ℕ) (old new : PortState I) : Type 0 where
   pub asked : Asked moves (whole_parts n) old new
-  pub fed : FeedsSide old new
+  pub from_is : new.from ≡ old.from
+  pub to_fed : (bytes : List ℕ) → with_fed bytes new.to ≡ with_fed bytes old.to
   pub waiting : new.to.controller.phase ≢ phase.Running
   pub bytes : kept (64 * n) new.to.controller.fed.bytes ≡ take (64 * n) (state_bytes old.from.controller)
 
 -- part i was handed over, behind those before it
 pub record HandsPart {I : Type 0} (moves : I → PortCall → I → Type 0) (i : ℕ) (old new : PortState I) : Type 0 where
   pub asked : Asked moves (part_asks i (part_length i old.from.controller)) old new
-  pub fed : FeedsSide old new
-  pub loading : new.to.controller.phase ≡ phase.Loading
-  pub bytes : new.to.controller.fed.bytes ≡ take (64 * i + part_length i old.from.controller) (state_bytes old.from.controller)
+  pub from_is : new.from ≡ old.from
+  pub to_is : new.to ≡ with_fed (take (64 * i + part_length i old.from.controller) (state_bytes old.from.controller)) old.to
 
 -- the whole state was
 pub record HandsOver {I : Type 0} (moves : I → PortCall → I → Type 0) (asks : List Ask) (old new : PortState I) : Type 0 where
   pub asked : Asked moves asks old new
-  pub fed : FeedsSide old new
-  pub loading : new.to.controller.phase ≡ phase.Loading
-  pub bytes : new.to.controller.fed.bytes ≡ state_bytes old.from.controller
+  pub from_is : new.from ≡ old.from
+  pub to_is : new.to ≡ with_fed (state_bytes old.from.controller) old.to
 
 pub record DoesResume {I : Type 0} (moves : I → PortCall → I → Type 0) (side : Side) (t : ℕ) (old new : PortState I) : Type 0 where
   pub asked : Asked moves (resume_asks side t) old new

@@ -1,9 +1,9 @@
 use Rattle.std.specs.Prelude.{IfSome, OnErr, OnOk, is_err}
-use Rattle.std.proofs.Common.{◌≡◌, ℕ, ◌+◌, ◌/◌, ◌%◌, Bool, cond, List, [], ◌∷◌, Option, Some, None, Result, Ok, Err, length, map, set, refl, sym, ap, subst, ◌∙◌, ◌<◌, ◌≤◌, ◌++◌, All, get_or, get_or-set_same, length-set, arith, ◌==◌, ◌-◌, ◌*◌, ⊎_elim, eq-eqb, ne_eqb}
+use Rattle.std.proofs.Common.{◌≡◌, ℕ, ◌+◌, ◌/◌, ◌%◌, Bool, cond, List, [], ◌∷◌, Option, Some, None, Result, Ok, Err, length, map, set, refl, sym, ap, subst, ◌∙◌, ◌<◌, ◌++◌, get_or, get_or-set_same, length-set, arith, ◌==◌, ◌-◌, ◌*◌, ⊎_elim, eq-eqb, ne_eqb}
 use Rattle.std.proofs.lemmas.Nat.{div-add-mod'}
 use Rattle.std.specs.List.{range_with_len}
 use Rattle.std.proofs.lemmas.List.{get_or-map, length-map, map-set, set-get_or, get_or-set_other, get_or_past, get_or_push, length_push}
-use Rattle.mig_base.specs.Count.{HaveCause, RiseBy, NeverFall}
+use Rattle.mig_base.specs.Count.{HaveCause, RiseBy}
 use Rattle.std.proofs.lemmas.Bool.{cases_eq, cases_lt}
 use Rattle.nvm_model.specs.declared.piece.Piece.{Piece}
 use Rattle.nvm_model.specs.declared.piece.PieceResult.{PieceResult}
@@ -12,9 +12,8 @@ use Rattle.nvm_model.specs.declared.trace.Step.{Step}
 use Rattle.nvm_model.specs.Chain.{Chain}
 use Rattle.nvm_model.specs.Medium.{At, Effect, IsAt, MediumState, StayTold, faults_in, flat_call, got, marked, marks_at, sent}
 use Rattle.nvm_model.specs.Piece.{block_at}
-use Rattle.nvm_model.proofs.MediaLemmas.{counts_rise, flat_calls, told_map, failures_of, piece_told}
+use Rattle.nvm_model.proofs.MediaLemmas.{counts_rise, flat_calls, told_map}
 use Rattle.nvm_blocks.specs.Namespace.{HasCalled, HasRoom, IsClearedAt, NamespaceState, block_count, entries_of, faults_of, media_of, rooms_of, told_of, with_entry, Enters, HasAppliedIn, IsSameButEntries, SameShelves, entries_at}
-use Rattle.nvm_model.specs.Trace.{piece_calls}
 use Rattle.nvm_blocks.specs.ShelfState.{ShelfState}
 
 -- What the calls of a namespace's media come to, for its told blocks and for its counts of failed calls.

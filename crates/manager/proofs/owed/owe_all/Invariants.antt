@@ -1,7 +1,8 @@
-use Rattle.std.specs.Prelude.{◌≡◌, ◌++◌, drop, replicate, true}
+use Rattle.std.specs.Prelude.{◌≡◌, length, replicate, take, true}
 use Rattle.manager.proofs.owed.owe_all.Given as goal
 
 abbrev pub invariant-loop-place : goal.invariant-loop-place
 invariant-loop-place l = record {
-  items : l.places.items ≡ replicate l.place true ++ drop l.place l.fn.places.items;
+  owed : take l.place l.places.items ≡ replicate l.place true;
+  size : length l.places.items ≡ length l.fn.places.items;
 }
