@@ -41,7 +41,7 @@ told_fewer count b rest bytes (Some from) (Some y) None None there read written 
 told_fewer count b rest bytes (Some from) (Some y) (Some to) (Some z) there read written d = rw (written, read.1, read.0) (one_fewer count b rest from to there d)
 told_fewer count b rest bytes _ _ _ _ there read written d = search
 
--- what is told and stays
+-- what is told, and stays as it was
 told_same : {B : Type 0} {R : B → B → Type 0} (old new : Option B) → ((x y : B) → R x y → y ≡ x) → StayTold R old new → new ≡ old
 told_same None None same stay = refl
 told_same (Some x) (Some y) same stay = ap Some (same x y stay)
@@ -62,7 +62,7 @@ none_told_differs count (Some from) (Some to) d = none_differs count from to d
 pub none_copied : {I : Type 0} (moves : I → PortCall → I → Type 0) (p : PortState I) → DoesCopy moves [] [] p p
 none_copied moves p = record { asked = asked_none moves p; fewer = λ rest d. d; from_later = omega arith; to_later = omega arith; from_is = refl; to_is = refl }
 
--- one was tried
+-- one was tried, and these are done by it
 pub one_tried : {I : Type 0} {moves : I → PortCall → I → Type 0} {answer : CopyAnswer} {done : List ℕ} {old new : PortState I} (b : ℕ) (bytes : List ℕ) → IsPortCall moves old (Copy b bytes answer) new
     → ((rest : List ℕ) → TellDifference old.count (done ++ rest) old.from.blocks old.to.blocks → TellDifference old.count rest new.from.blocks new.to.blocks) → DoesCopy moves (AskCopy b answer ∷ []) done old new
 one_tried {answer = answer} {old = old} {new} b bytes c fewer = record {

@@ -65,7 +65,8 @@ part_length i c = min 64 (size_of c - 64 * i)
 abbrev pub with_fed : List ℕ → SideState → SideState
 with_fed bytes side = with_controller (record side.controller { phase = phase.Loading; fed = record side.controller.fed { bytes = bytes } }) side
 
--- so many whole parts were handed over, and the destination waits for more
+-- so many whole parts were handed over, and the destination waits for more: what it is fed next makes the same of it as of the
+-- one at the start
 pub record HasFed {I : Type 0} (moves : I → PortCall → I → Type 0) (n : ℕ) (old new : PortState I) : Type 0 where
   pub asked : Asked moves (whole_parts n) old new
   pub from_is : new.from ≡ old.from
