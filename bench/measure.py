@@ -88,6 +88,17 @@ def small_pieces(pieces):
     return lines
 
 
+def read_pieces(pieces):
+    """Reads of 64 blocks by a list page, which 64 shelves of one block cut into 64 pieces with a digest each, sixty before a
+    wait."""
+    lines = head(64, 10) + ["1 list 9 1 2 3 4 5 6 7"]
+    for i in range(pieces // 64):
+        lines.append(f"1 submit {i % 65536} read 0 64 0 9")
+        if i % 60 == 59:
+            lines.append("1 wait")
+    return lines
+
+
 def writes_of_turns(shelves):
     """64,000 writes of one block each, 59 in a turn, over so many shelves."""
     lines = head(64, 1, shelves=shelves)
@@ -105,6 +116,7 @@ KINDS = [
     ("transfers of 64 blocks", long_transfers, [4096, 16384, 65534]),
     ("blocks moved", moved_blocks, [32768, 65536, 131072]),
     ("pieces of one block", small_pieces, [500000, 1000000, 2000000]),
+    ("pieces that are read", read_pieces, [150000, 300000, 600000]),
 ]
 
 COUNTED = [
