@@ -7,7 +7,8 @@ use Rattle.nvm_model.specs.declared.command.Outcome.TheVariants.{Done, Faulted, 
 use Rattle.nvm_model.specs.declared.piece.Piece.{Piece}
 use Rattle.nvm_model.specs.declared.piece.PieceResult.{PieceResult}
 use Rattle.nvm_model.specs.Chain.{Chain}
-use Rattle.nvm_model.specs.Medium.{Call, Effect, IsMade}
+use Rattle.nvm_model.specs.Medium.{Effect, IsMade}
+use Rattle.nvm_model.specs.declared.trace.Call.{Call}
 use Rattle.nvm_model.specs.Piece.{ComparesTo, MovesTo, OutcomeFits, block_at, data_block, digest_after, done_blocks}
 use Rattle.nvm_model.specs.Shelf.{HasEffect, digest_bytes}
 use Rattle.nvm_model.specs.Trace.{good_calls, moved_count, piece_calls, step_of}

@@ -1,6 +1,7 @@
 use Rattle.std.specs.Prelude.{ℕ, Bool, true, false, ◌∷◌, [], ◌++◌, List, Option, Some, None, length, nat_lt, replicate, if◌then◌else◌}
 use Rattle.nvm_model.specs.declared.trace.Step.{Step}
-use Rattle.nvm_model.specs.Medium.{Call, IsCall, MediumState}
+use Rattle.nvm_model.specs.Medium.{IsCall, MediumState}
+use Rattle.nvm_model.specs.declared.trace.Call.{Call}
 
 -- A medium in memory: its blocks, its trace while that has at most `room` steps, the numbers of the gets and of the
 -- puts that fail, how many of each were made, and how many failed.

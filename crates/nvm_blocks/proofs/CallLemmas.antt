@@ -14,7 +14,8 @@ use Rattle.nvm_model.specs.declared.piece.Piece.{Piece}
 use Rattle.nvm_model.specs.declared.piece.PieceResult.{PieceResult}
 use Rattle.nvm_model.specs.declared.trace.Step.{Step}
 use Rattle.nvm_model.specs.Chain.{Chain}
-use Rattle.nvm_model.specs.Medium.{Call, IsMade, MediumState}
+use Rattle.nvm_model.specs.Medium.{IsMade, MediumState}
+use Rattle.nvm_model.specs.declared.trace.Call.{Call}
 use Rattle.nvm_model.specs.Memory.{with_bytes, zero_block}
 use Rattle.nvm_model.specs.Piece.{ComparesTo, MovesTo, block_at, data_block, done_blocks, page_of, place_of, read_blocks}
 use Rattle.nvm_model.specs.Trace.{AreDue, IsPieceDone, data_sent, good_calls, moved_count, piece_calls, step_of}

@@ -10,7 +10,8 @@ use Rattle.nvm_model.specs.declared.piece.PieceResult.{PieceResult}
 use Rattle.nvm_model.specs.declared.piece.ShelfEntry.{ShelfEntry}
 use Rattle.nvm_model.specs.declared.trace.Step.{Step}
 use Rattle.nvm_model.specs.Chain.{Chain}
-use Rattle.nvm_model.specs.Medium.{At, Call, HasSize, HaveSize, IsAt, IsMade, MediumState, all_at, marked, marks_at}
+use Rattle.nvm_model.specs.Medium.{At, HasSize, HaveSize, IsAt, IsMade, MediumState, all_at, marked, marks_at}
+use Rattle.nvm_model.specs.declared.trace.Call.{Call}
 use Rattle.nvm_model.specs.Shelf.{LiesIn, joined}
 use Rattle.nvm_model.specs.Trace.{piece_calls}
 use Rattle.nvm_model.proofs.ChainLemmas.{chain_keeps, chain_more}

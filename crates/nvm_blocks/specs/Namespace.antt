@@ -5,7 +5,8 @@ use Rattle.nvm_model.specs.declared.piece.PieceResult.{PieceResult}
 use Rattle.nvm_model.specs.declared.piece.ShelfEntry.{ShelfEntry}
 use Rattle.nvm_model.specs.declared.trace.Step.{Step}
 use Rattle.nvm_model.specs.Chain.{Chain}
-use Rattle.nvm_model.specs.Medium.{At, Call, HasSize, HaveSize, IsAt, MediumState, all_at, faults_in, told_in}
+use Rattle.nvm_model.specs.Medium.{At, HasSize, HaveSize, IsAt, MediumState, all_at, faults_in, told_in}
+use Rattle.nvm_model.specs.declared.trace.Call.{Call}
 use Rattle.nvm_model.specs.Shelf.{joined}
 use Rattle.nvm_model.specs.Trace.{IsPieceDone, piece_calls}
 use Rattle.nvm_blocks.specs.ShelfState.{ShelfState}

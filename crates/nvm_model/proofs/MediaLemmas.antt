@@ -15,7 +15,8 @@ use Rattle.nvm_model.specs.declared.trace.Step.{Step}
 use Rattle.nvm_model.specs.declared.trace.Step.TheVariants.{Get, Put, Mark}
 use Rattle.nvm_model.specs.Chain.{Chain}
 use Rattle.nvm_model.specs.History.{is_faulted}
-use Rattle.nvm_model.specs.Medium.{At, Call, Effect, HasSize, HaveSize, IsAt, IsCall, IsMade, MediumState, StayTold, all_at, blocks_with, failures_in, faults_in, flat_call, flat_step, told_in}
+use Rattle.nvm_model.specs.Medium.{At, Effect, HasSize, HaveSize, IsAt, IsCall, IsMade, MediumState, StayTold, all_at, blocks_with, failures_in, faults_in, flat_call, flat_step, told_in}
+use Rattle.nvm_model.specs.declared.trace.Call.{Call}
 use Rattle.nvm_model.specs.Shelf.{AreShelves, HasEffect, all_blocks, joined, shelf_at}
 use Rattle.nvm_model.specs.Trace.{IsPieceDone, data_sent, good_calls, piece_calls, step_of}
 use Rattle.nvm_model.proofs.ChainLemmas.{chain_map, told_chain}

@@ -11,7 +11,8 @@ use Rattle.nvm_model.specs.declared.piece.Piece.{Piece}
 use Rattle.nvm_model.specs.declared.piece.PieceResult.{PieceResult}
 use Rattle.nvm_model.specs.declared.trace.Step.TheVariants.{Get, Put}
 use Rattle.nvm_model.specs.Chain.{Chain}
-use Rattle.nvm_model.specs.Medium.{Call, Effect}
+use Rattle.nvm_model.specs.Medium.{Effect}
+use Rattle.nvm_model.specs.declared.trace.Call.{Call}
 use Rattle.nvm_model.specs.Memory.{zero_block, with_bytes}
 use Rattle.nvm_model.specs.Piece.{OutcomeFits, ComparesTo, MovesTo, block_at, blocks_after, bytes_of, data_block, digest_after, done_blocks, memory_after, page_of, place_of, put_blocks, read_blocks}
 use Rattle.nvm_model.specs.Shelf.{HasEffect, digest_bytes}

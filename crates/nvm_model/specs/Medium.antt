@@ -1,6 +1,7 @@
 use Rattle.std.specs.Prelude.{◌≡◌, ℕ, ◌+◌, ◌*◌, ◌<◌, ◌≤◌, Bool, true, false, cond, List, [], ◌∷◌, ◌++◌, Option, Some, None, Result, Ok, Err, All, IfSome, length, map, slice_index_or, slice_set}
 use Rattle.std.specs.List.{range_with_len}
 use Rattle.mig_base.specs.Count.{RisesBy}
+use Rattle.nvm_model.specs.declared.trace.Call.{Call}
 use Rattle.nvm_model.specs.declared.trace.Step.{Step}
 use Rattle.nvm_model.specs.declared.trace.Step.TheVariants.{Get, Put, Mark}
 
@@ -15,11 +16,7 @@ pub record MediumState (I : Type 0) : Type 0 where
   pub size : ℕ
   pub inside : I
 
--- A call: its step, the bytes that came or went, and whether it failed. A get that failed has no bytes, nor has a mark.
-pub record Call : Type 0 where
-  pub step : Step
-  pub bytes : List ℕ
-  pub failed : Bool
+-- A call (`Call`): a get that failed has no bytes, nor has a mark.
 
 -- a get of block b by its answer
 abbrev pub got : {T E : Type 0} → ℕ → List ℕ → Result T E → Call

@@ -13,7 +13,8 @@ use Rattle.nvm_model.specs.declared.trace.Step.{Step}
 use Rattle.nvm_model.specs.declared.trace.Step.TheVariants.{Get, Put}
 use Rattle.nvm_model.specs.Chain.{Chain}
 use Rattle.nvm_model.specs.History.{Complete}
-use Rattle.nvm_model.specs.Medium.{At, Call, IsAt, MediumState, all_at, marks_at}
+use Rattle.nvm_model.specs.Medium.{At, IsAt, MediumState, all_at, marks_at}
+use Rattle.nvm_model.specs.declared.trace.Call.{Call}
 use Rattle.nvm_model.specs.Piece.{after_piece, digest_after, done_blocks, piece_at, piece_count, pieces_left}
 use Rattle.nvm_model.specs.Ring.{lane_windows}
 use Rattle.nvm_model.specs.Shelf.{digest_bytes}

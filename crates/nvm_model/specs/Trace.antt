@@ -9,7 +9,8 @@ use Rattle.nvm_model.specs.declared.piece.PieceResult.{PieceResult}
 use Rattle.nvm_model.specs.declared.trace.Step.{Step}
 use Rattle.nvm_model.specs.declared.trace.Step.TheVariants.{Get, Put}
 use Rattle.nvm_model.specs.Chain.{Chain}
-use Rattle.nvm_model.specs.Medium.{Call, Effect}
+use Rattle.nvm_model.specs.Medium.{Effect}
+use Rattle.nvm_model.specs.declared.trace.Call.{Call}
 use Rattle.nvm_model.specs.Memory.{zero_block}
 use Rattle.nvm_model.specs.Piece.{OutcomeFits, block_at, data_block, digest_after, done_blocks, memory_after}
 use Rattle.nvm_model.specs.Shelf.{HasEffect, digest_bytes}

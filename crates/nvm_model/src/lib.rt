@@ -16,4 +16,4 @@ pub use piece::{Piece, PieceResult, ShelfEntry, piece_calls_have_effect, piece_i
 pub use ring::RingState;
 pub use run::{RunPhase, Side};
 pub use script::{Act, Acts, Head, LaneSet, Script};
-pub use trace::Step;
+pub use trace::{Call, Step};

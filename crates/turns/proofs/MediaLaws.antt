@@ -9,7 +9,8 @@ use Rattle.nvm_model.specs.declared.script.Script.{Script}
 use Rattle.nvm_model.specs.declared.trace.Step.{Step}
 use Rattle.nvm_model.specs.Chain.{Chain}
 use Rattle.nvm_model.specs.History.{faults_shown, is_faulted}
-use Rattle.nvm_model.specs.Medium.{At, Call, HasSize, HaveSize, IsAt, MediumState, all_at, failures_in, faults_in, marked, marks_at}
+use Rattle.nvm_model.specs.Medium.{At, HasSize, HaveSize, IsAt, MediumState, all_at, failures_in, faults_in, marked, marks_at}
+use Rattle.nvm_model.specs.declared.trace.Call.{Call}
 use Rattle.nvm_model.proofs.ChainLemmas.{chain_keeps, chain_more, chain_one}
 use Rattle.nvm_model.proofs.MediaLemmas.{call_size, counts_rise, failures_of}
 use Rattle.nvm_model.specs.Run.{AllCopied, CopiesUpTo, Copy, CopyEnd, Here, IsPiece, IsStage, IsTurn, PieceCalled, Snapshot, Stage, Task, TurnDone, all_blocks, by_side, calls_at, gets_of, here, left_calls, lines_in, lines_of, media_at, media_count, opposite, part_of, piece_line, puts_of, taken_calls, turn_calls, turn_lines}
