@@ -28,18 +28,18 @@ unbuilt_spells_none (Some text) s line spelled only unbuilt =
     (spelled.1, λ other taken is. unbuilt.moves (subst (λ (x : Script). IsBuilt x.head) (sym (only other taken.script is)) taken.built).moves)
 
 -- why no script was read, as why nothing was run
-pub not_read : (told : Option (List ℕ)) (before now : ℕ) (from to : List ℕ) (status : Status) → IsReadRefusal told before now status → IsRefusal told before now from to status
-not_read told before now from to (BadScript line why) is = record { bad_script = bad_spells_none told line why is; bad_line = inl is; too_long = tt; host_size = tt; read_fault = tt; not_run = tt }
-not_read told before now from to TooLong is = record { bad_script = tt; bad_line = tt; too_long = is; host_size = tt; read_fault = tt; not_run = tt }
-not_read told before now from to ReadFault is = record { bad_script = tt; bad_line = tt; too_long = tt; host_size = tt; read_fault = is; not_run = tt }
-not_read told before now from to NoMemory is = record { bad_script = tt; bad_line = tt; too_long = tt; host_size = tt; read_fault = tt; not_run = tt }
-not_read told before now from to Done is = absurd is
-not_read told before now from to GaveUp is = absurd is
-not_read told before now from to (Refused line why) is = absurd is
-not_read told before now from to Usage is = absurd is
-not_read told before now from to (HostSize kept asked) is = absurd is
-not_read told before now from to WriteFault is = absurd is
+pub not_read : (told : Option (List ℕ)) (from to : List ℕ) (status : Status) → IsReadRefusal told status → IsRefusal told from to status
+not_read told from to (BadScript line why) is = record { bad_script = bad_spells_none told line why is; bad_line = inl is; too_long = tt; host_size = tt; not_run = tt }
+not_read told from to TooLong is = record { bad_script = tt; bad_line = tt; too_long = is; host_size = tt; not_run = tt }
+not_read told from to ReadFault is = record { bad_script = tt; bad_line = tt; too_long = tt; host_size = tt; not_run = tt }
+not_read told from to NoMemory is = record { bad_script = tt; bad_line = tt; too_long = tt; host_size = tt; not_run = tt }
+not_read told from to Done is = absurd is
+not_read told from to GaveUp is = absurd is
+not_read told from to (Refused line why) is = absurd is
+not_read told from to Usage is = absurd is
+not_read told from to (HostSize kept asked) is = absurd is
+not_read told from to WriteFault is = absurd is
 
 -- a script that isn't built, the same
-pub not_built : (told : Option (List ℕ)) (before now : ℕ) (from to : List ℕ) (s : Script) (line : ℕ) → IsScript s → Spells told s → SpellsOnly told s → IsUnbuilt s.head line → IsRefusal told before now from to (BadScript line Range)
-not_built told before now from to s line is spelled only unbuilt = record { bad_script = unbuilt_spells_none told s line spelled only unbuilt; bad_line = inr (refl, s, is, spelled, unbuilt); too_long = tt; host_size = tt; read_fault = tt; not_run = tt }
+pub not_built : (told : Option (List ℕ)) (from to : List ℕ) (s : Script) (line : ℕ) → IsScript s → Spells told s → SpellsOnly told s → IsUnbuilt s.head line → IsRefusal told from to (BadScript line Range)
+not_built told from to s line is spelled only unbuilt = record { bad_script = unbuilt_spells_none told s line spelled only unbuilt; bad_line = inr (refl, s, is, spelled, unbuilt); too_long = tt; host_size = tt; not_run = tt }

@@ -1,7 +1,7 @@
 use Rattle.std.proofs.Common.{◌≡◌, ℕ, ◌*◌, ◌&&◌, Bool, true, false, List, Option, Some, None, Result, Ok, Err, length, refl, sym, ap, subst, ◌∙◌}
 use Rattle.std.specs.Prelude.{IfOk, is_err}
 use Rattle.std.proofs.lemmas.List.{length-map}
-use Rattle.mig_base.specs.Count.{RisesBy}
+use Rattle.mig_base.specs.Count.{RisesIf}
 use Rattle.nvm_model.specs.declared.script.Head.{Head}
 use Rattle.nvm_model.specs.declared.script.Script.{Script}
 use Rattle.nvm_model.specs.declared.trace.Step.{Step}
@@ -231,6 +231,6 @@ pub new_place : {M I : Type 0} {state : M → MediumState I} {side : Side} {head
 new_place {M} {side = side} {place = place} same o = subst (λ (h : Head). IsNewPlace (phase_at side) h (media_of place.namespace) place) same
     (record { namespace = o.opened.namespace; media_are = refl; windows = o.opened.windows; controller = o.opened.controller })
 
--- the output's count rose where it failed
-pub rises : {M I E : Type 0} {state : M → MediumState I} {moves : I → Step → Bool → I → Type 0} {from : Snapshot M} {result : Result Ending E} {new : Hosts M} → HasGone state moves from result new → is_err result ≡ true → RisesBy 1 from.out.faults new.out.faults
-rises {from = from} g failed = subst (λ (o : SinkState). RisesBy 1 from.out.faults o.faults) (sym g.left.out) (g.ran.rose failed)
+-- the output's count rose where it failed, and there alone
+pub counted : {M I E : Type 0} {state : M → MediumState I} {moves : I → Step → Bool → I → Type 0} {from : Snapshot M} {result : Result Ending E} {new : Hosts M} → HasGone state moves from result new → RisesIf (is_err result) from.out.faults new.out.faults
+counted {from = from} {result = result} g = subst (λ (o : SinkState). RisesIf (is_err result) from.out.faults o.faults) (sym g.left.out) g.ran.counted

@@ -1,5 +1,5 @@
-use Rattle.std.specs.Prelude.{◌≡◌, ◌⊎◌, ℕ, Bool, true, false, List, Option, Some, None}
-use Rattle.mig_base.specs.Count.{RisesBy}
+use Rattle.std.specs.Prelude.{◌≡◌, ◌⊎◌, ℕ, Bool, true, false, List, Option, Some, None, Result, Ok, Err}
+use Rattle.mig_base.specs.Count.{RisesIf}
 use Rattle.nvm_model.specs.declared.script.Script.{Script}
 use Rattle.nvm_model.specs.ScriptText.{IsScript}
 use Rattle.mig_base.specs.Stream.{IsCut, with_more}
@@ -15,18 +15,18 @@ use Rattle.engine.specs.Words.{IsForm, IsNoForm}
 
 -- What each answer claims.
 
--- why no script was read, of an input whose bytes may be told and whose faults are counted
-abbrev pub IsReadRefusal : Option (List ℕ) → ℕ → ℕ → Status → Type 0
-IsReadRefusal told before now (BadScript line why) = TellsBadLine told line why
-IsReadRefusal told before now TooLong = IsTooLong told
-IsReadRefusal told before now ReadFault = RisesBy 1 before now
-IsReadRefusal told before now OutOfMemory = Unit {0}
-IsReadRefusal told before now Done = ⊥
-IsReadRefusal told before now GaveUp = ⊥
-IsReadRefusal told before now (Refused line why) = ⊥
-IsReadRefusal told before now Usage = ⊥
-IsReadRefusal told before now (HostSize kept asked) = ⊥
-IsReadRefusal told before now WriteFault = ⊥
+-- why no script was read, of an input whose bytes may be told
+abbrev pub IsReadRefusal : Option (List ℕ) → Status → Type 0
+IsReadRefusal told (BadScript line why) = TellsBadLine told line why
+IsReadRefusal told TooLong = IsTooLong told
+IsReadRefusal told ReadFault = Unit {0}
+IsReadRefusal told OutOfMemory = Unit {0}
+IsReadRefusal told Done = ⊥
+IsReadRefusal told GaveUp = ⊥
+IsReadRefusal told (Refused line why) = ⊥
+IsReadRefusal told Usage = ⊥
+IsReadRefusal told (HostSize kept asked) = ⊥
+IsReadRefusal told WriteFault = ⊥
 
 -- why a text gives no script
 abbrev pub IsNoScript : List ℕ → Status → Type 0
@@ -178,31 +178,23 @@ IsHostSize told from to TooLong = Unit {0}
 IsHostSize told from to OutOfMemory = Unit {0}
 IsHostSize told from to ReadFault = Unit {0}
 
--- `ReadFault` comes only where the input's count rose
-abbrev pub IsReadFault : ℕ → ℕ → Status → Type 0
-IsReadFault before now ReadFault = RisesBy 1 before now
-IsReadFault before now Done = Unit {0}
-IsReadFault before now GaveUp = Unit {0}
-IsReadFault before now (Refused line why) = Unit {0}
-IsReadFault before now Usage = Unit {0}
-IsReadFault before now (BadScript line why) = Unit {0}
-IsReadFault before now TooLong = Unit {0}
-IsReadFault before now OutOfMemory = Unit {0}
-IsReadFault before now (HostSize kept asked) = Unit {0}
-IsReadFault before now WriteFault = Unit {0}
+-- whether the answer is that the input failed
+abbrev pub is_read_fault : Status → Bool
+is_read_fault ReadFault = true
+is_read_fault _ = false
 
--- `WriteFault` comes only where the output's count rose
+-- the input's count of faults rose where the answer is `ReadFault`, and is as it was after every other
+abbrev pub IsReadFault : ℕ → ℕ → Status → Type 0
+IsReadFault before now status = RisesIf (is_read_fault status) before now
+
+-- the same of the output's count and `WriteFault`
 abbrev pub IsWriteFault : ℕ → ℕ → Status → Type 0
-IsWriteFault before now WriteFault = RisesBy 1 before now
-IsWriteFault before now Done = Unit {0}
-IsWriteFault before now GaveUp = Unit {0}
-IsWriteFault before now (Refused line why) = Unit {0}
-IsWriteFault before now Usage = Unit {0}
-IsWriteFault before now (BadScript line why) = Unit {0}
-IsWriteFault before now TooLong = Unit {0}
-IsWriteFault before now OutOfMemory = Unit {0}
-IsWriteFault before now (HostSize kept asked) = Unit {0}
-IsWriteFault before now ReadFault = Unit {0}
+IsWriteFault before now status = RisesIf (is_write_fault status) before now
+
+-- the same of the input's count and a call that may answer with a status
+abbrev pub HasReadCause : {T : Type 0} → ℕ → ℕ → Result T Status → Type 0
+HasReadCause before now (Ok t) = now ≡ before
+HasReadCause before now (Err status) = IsReadFault before now status
 
 -- of an answer that comes before the first line of a run, or before what is shown or said
 abbrev pub OnRefused : Status → Type 0 → Type 0
@@ -235,10 +227,9 @@ IsBeforeRun (HostSize kept asked) = Unit {0}
 IsBeforeRun ReadFault = Unit {0}
 
 -- why nothing was run, where the words ask for a run
-pub record IsRefusal (told : Option (List ℕ)) (before now : ℕ) (from to : List ℕ) (status : Status) : Type 0 where
+pub record IsRefusal (told : Option (List ℕ)) (from to : List ℕ) (status : Status) : Type 0 where
   pub bad_script : IsBadScript told status
   pub bad_line : IsBadRun told status
   pub too_long : IsLong told status
   pub host_size : IsHostSize told from to status
-  pub read_fault : IsReadFault before now status
   pub not_run : IsBeforeRun status

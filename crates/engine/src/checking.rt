@@ -7,7 +7,7 @@ ghost use Rattle.engine.specs.StatusText.{fault_text};
 
 use crate::Status;
 use judge::{Fault, Verdict, check};
-use line_buf::{LineBuf, write_line};
+use line_buf::{LineBuf, write_last_line};
 use mig_base::{CollectRefusal, Failed, OutOfMemory, Sink, Source, collect};
 use script::{BadLine, ParseRefusal, parse_front};
 use std::alloc::Global;
@@ -22,7 +22,7 @@ pub(crate) fn check_transcript<S: Source, K: Sink>(
     output: &mut K,
 ) -> Status
     ensures checked { IsChecked (S.left input.old) (K.bytes output.old) (K.bytes output.new) result }
-    ensures before { OnRefused result (K.bytes output.new ≡ K.bytes output.old) }
+    ensures before { OnRefused result (output.new ≡ output.old) }
     ensures read_fault { IsReadFault (S.faults input.old) (S.faults input.new) result }
     ensures write_fault { IsWriteFault (K.faults output.old) (K.faults output.new) result }
 {
@@ -83,7 +83,7 @@ fn write_verdict<K: Sink>(verdict: Verdict, output: &mut K) -> Result<(), Failed
 {
     let mut line = LineBuf::new();
     push_verdict(verdict, &mut line);
-    write_line(line.bytes(), output)
+    write_last_line(line.bytes(), output)
 }
 
 fn push_verdict(verdict: Verdict, line: &mut LineBuf)

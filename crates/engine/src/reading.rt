@@ -4,7 +4,7 @@ ghost use Rattle.nvm_model.specs.declared.script.Script.{Script};
 ghost use Rattle.nvm_model.specs.World.{window_pages};
 ghost use Rattle.nvm_model.specs.ScriptText.{IsScript, script_text};
 ghost use Rattle.engine.specs.Built.{IsBuilt, IsUnbuilt, Spells, SpellsOnly};
-ghost use Rattle.engine.specs.Claims.{IsReadRefusal, IsNoScript};
+ghost use Rattle.engine.specs.Claims.{HasReadCause, IsReadRefusal, IsNoScript};
 
 use crate::Status;
 use mig_base::{CollectRefusal, Source, collect};
@@ -24,7 +24,8 @@ pub(crate) fn read_script<S: Source>(alloc: Global, input: &mut S) -> Result<Scr
     ensures script { IfOk result IsScript }
     ensures spells { IfOk result (Spells (S.left input.old)) }
     ensures only { IfOk result (SpellsOnly (S.left input.old)) }
-    ensures refusal { IfErr result (IsReadRefusal (S.left input.old) (S.faults input.old) (S.faults input.new)) }
+    ensures refusal { IfErr result (IsReadRefusal (S.left input.old)) }
+    ensures cause { HasReadCause (S.faults input.old) (S.faults input.new) result }
 {
     match collect(alloc, input, MOST_BYTES) {
         Ok(text) => take_script(alloc, text.as_slice()),

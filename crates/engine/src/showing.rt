@@ -15,7 +15,7 @@ pub(crate) fn show_script<S: Source, K: Sink>(
     output: &mut K,
 ) -> Status
     ensures shown { IsShown (S.left input.old) (K.bytes output.old) (K.bytes output.new) result }
-    ensures before { OnRefused result (K.bytes output.new ≡ K.bytes output.old) }
+    ensures before { OnRefused result (output.new ≡ output.old) }
     ensures too_long { IsLong (S.left input.old) result }
     ensures read_fault { IsReadFault (S.faults input.old) (S.faults input.new) result }
     ensures write_fault { IsWriteFault (K.faults output.old) (K.faults output.new) result }

@@ -4,7 +4,7 @@ ghost use Rattle.engine.specs.StatusText.{code_of, fault_text, why_text, status_
 
 use crate::checking::push_fault;
 use judge::Fault;
-use line_buf::{LineBuf, write_line};
+use line_buf::{LineBuf, write_last_line};
 use mig_base::{Failed, Sink};
 use script::Why;
 
@@ -51,18 +51,18 @@ impl Status {
         }
     }
 
-    /// Writes the status's text, a line, where it has one.
+    /// Writes the status's text, a line, where it has one, and flushes the sink.
     ///
     /// # Errors
     ///
-    /// `Failed` only where the sink's count of faults rose. A front of the text was written then.
+    /// `Failed` only where the sink's count of faults rose. A front of the text was written then: all of it, where the flush failed.
     pub fn write<K: Sink>(&self, sink: &mut K) -> Result<(), Failed>
         ensures { Writes (status_text self.now) (K.bytes sink.old) (K.bytes sink.new)
             (K.faults sink.old) (K.faults sink.new) result }
     {
         let mut line = LineBuf::new();
         self.push(&mut line);
-        write_line(line.bytes(), sink)
+        write_last_line(line.bytes(), sink)
     }
 
     /// The status's text behind what the empty line has.

@@ -8,9 +8,10 @@ ghost use Rattle.nvm_model.specs.Told.{serial};
 ghost use Rattle.controller.specs.declared.controller.Phase.TheVariants.{Loading, Running};
 ghost use Rattle.session.specs.Opened.{IsNewPlace};
 ghost use Rattle.session.specs.Sides.{IsNewSession, sink};
+ghost use Rattle.engine.specs.declared.status.Status.TheVariants.{Usage};
 ghost use Rattle.engine.specs.Built.{IsTaken, Spells};
 ghost use Rattle.engine.specs.Checked.{IsChecked};
-ghost use Rattle.engine.specs.Claims.{IsAsBefore, IsRefusal, OnRefused, OnRun};
+ghost use Rattle.engine.specs.Claims.{HasReadCause, IsAsBefore, IsRefusal, OnRefused, OnRun};
 ghost use Rattle.engine.specs.Claims.{IsBadRun, IsBadScript, IsHostSize, IsLong, IsReadFault, IsShown};
 ghost use Rattle.engine.specs.Claims.{IsUsage, IsWriteFault};
 ghost use Rattle.engine.specs.Headline.{HasGone, IsRun, hosts};
@@ -51,9 +52,11 @@ pub fn nvmigrate<R: Threads + Sync, S: Source, K: Sink, M: Medium + Send, G: Gat
     ensures ran { IfRuns (map string_bytes words.now) (OnRun result (IsRun M.state M.moves (S.left input.old)
         (hosts from.old to.old (sink (K.bytes output.old) (K.faults output.old))) result
         (hosts from.new to.new (sink (K.bytes output.new) (K.faults output.new))))) }
-    ensures before_run { OnRefused result ((K.bytes output.new ≡ K.bytes output.old)
+    ensures before_run { OnRefused result ((output.new ≡ output.old)
         × IsAsBefore from.old from.new × IsAsBefore to.old to.new) }
     ensures usage { IsUsage (map string_bytes words.now) result }
+    // Nothing is read, and nothing touched, where the words ask for nothing.
+    ensures unread { result ≡ Usage → (input.new ≡ input.old) × (from.new ≡ from.old) × (to.new ≡ to.old) }
     ensures bad_script { IfRuns (map string_bytes words.now) (IsBadScript (S.left input.old) result) }
     // The line and the cause that it tells are those of the first line that isn't right.
     ensures bad_line { IfRuns (map string_bytes words.now) (IsBadRun (S.left input.old) result) }
@@ -103,8 +106,9 @@ fn prepare<S: Source, M: Medium>(
     ensures spelled { IfOk result (λ r. Spells (S.left input.old) r.1.script) }
     ensures new { IfOk result (λ r. IsNewSession r.1.script r.1 × HaveSizes r.1.script
         (sizes_in M.state from.now.shelves.items) (sizes_in M.state to.now.shelves.items)) }
-    ensures refusal { IfErr result (IsRefusal (S.left input.old) (S.faults input.old) (S.faults input.new)
+    ensures refusal { IfErr result (IsRefusal (S.left input.old)
         (sizes_in M.state from.now.shelves.items) (sizes_in M.state to.now.shelves.items)) }
+    ensures cause { HasReadCause (S.faults input.old) (S.faults input.new) result }
 {
     let script = match read_script(alloc, input) {
         Ok(script) => script,

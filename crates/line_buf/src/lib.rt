@@ -122,5 +122,17 @@ pub fn write_line<K: Sink>(line: &[u8], sink: &mut K) -> Result<(), Failed>
     send(sink, line)
 }
 
+/// Writes the last line of a text, and flushes the sink.
+///
+/// # Errors
+///
+/// As those of `write_line`; the whole line may have been written then, too.
+pub fn write_last_line<K: Sink>(line: &[u8], sink: &mut K) -> Result<(), Failed>
+    ensures { Writes line.now (K.bytes sink.old) (K.bytes sink.new) (K.faults sink.old) (K.faults sink.new) result }
+{
+    write_line(line, sink)?;
+    sink.flush()
+}
+
 #[cfg(test)]
 mod tests;

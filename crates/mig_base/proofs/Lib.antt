@@ -1,5 +1,4 @@
 pub mod CountLemmas
 pub mod ListLemmas
 pub mod StreamSteps
-pub mod WaitLemmas
 pub mod WriteLemmas

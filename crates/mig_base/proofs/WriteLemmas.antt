@@ -1,4 +1,4 @@
-use Rattle.std.proofs.Common.{◌≡◌, ℕ, ◌+◌, ◌-◌, ◌^◌, ◌<◌, ◌≤◌, min, List, [], ◌∷◌, ◌++◌, Option, Some, None, Result, Ok, Err, IsErr, length, take, drop, get_or, refl, sym, ap, ◌∙◌, append_assoc, arith}
+use Rattle.std.proofs.Common.{◌≡◌, ℕ, ◌+◌, ◌<◌, ◌≤◌, List, [], ◌∷◌, ◌++◌, Option, Some, None, Result, Ok, Err, IsErr, length, take, drop, get_or, refl, sym, ap, subst, ◌∙◌, append_assoc, arith}
 use Rattle.std.proofs.Math.Seq.{take-append-add}
 use Rattle.std.proofs.lemmas.Grind.{flat_map-append}
 use Rattle.std.proofs.lemmas.List.{take-append-le, take-append-drop, take_more, take_all, flat_map_more, length-append, length-take-le, append-nil}
@@ -37,11 +37,8 @@ cut_after a b before mid after first cut =
     )
 
 -- a call of which the count rose, from where it stood before
-pub cause_since : {T E : Type 0} {f g h : ℕ} {result : Result T E} → f ≤ g → HasCause g h result → HasCause f h result
-cause_since {h = h} le cause = record {
-  later = omega (arith, cause.later);
-  failed = λ err. let rises : min (_ + 1) (2 ^ 64 - 1) ≤ h = cause.failed err in omega arith;
-}
+pub cause_since : {T E : Type 0} {f g h : ℕ} {result : Result T E} → g ≡ f → HasCause g h result → HasCause f h result
+cause_since {h = h} {result = result} same cause = subst (λ n. HasCause n h result) same cause
 
 -- the text of the first parts of a list, and of all
 pub part_more : {A : Type 0} (part : A → List ℕ) (xs : List A) (i : ℕ) (d : A) → i < length xs → flat_map part (take (i + 1) xs) ≡ flat_map part (take i xs) ++ part (get_or xs i d)
@@ -58,12 +55,22 @@ pub writes_then : {T U E : Type 0} {a b : List ℕ} {before mid after : Option (
 writes_then {result = Ok u} first second = record {
   written = written_more _ _ _ _ _ first.written second.written;
   cut = second.cut;
-  cause = cause_since first.cause.later second.cause;
+  cause = cause_since first.cause.calm second.cause;
 }
 writes_then {result = Err e} first second = record {
   written = second.written;
   cut = cut_after _ _ _ _ _ first.written second.cut;
-  cause = cause_since first.cause.later second.cause;
+  cause = cause_since first.cause.calm second.cause;
+}
+
+-- A text was written, and then the sink was flushed.
+pub writes_flushed : {T U E : Type 0} {a : List ℕ} {before mid after : Option (List ℕ)} {f g h : ℕ} {t : T} {result : Result U E} →
+    Writes {T = T} {E = E} a before mid f g (Ok t) → after ≡ mid → HasCause g h result → Writes a before after f h result
+writes_flushed {result = Ok u} first kept cause = record { written = kept ∙ first.written; cut = tt; cause = cause_since first.cause.calm cause }
+writes_flushed {a = a} {before = before} {result = Err e} first kept cause = record {
+  written = tt;
+  cut = (length a, omega arith, kept ∙ first.written ∙ ap (λ (t : List ℕ). with_more t before) (sym (take_all (length a) a (omega arith))));
+  cause = cause_since first.cause.calm cause;
 }
 
 -- A text was cut, so all that goes on with it is.
@@ -73,7 +80,7 @@ writes_no_more {result = Ok u} b cut err = absurd (cc)
 writes_no_more {result = Err e} b cut err = record {
   written = cut.written;
   cut = cut_longer _ b _ _ cut.cut;
-  cause = record { later = cut.cause.later; failed = λ _. cut.cause.failed refl };
+  cause = record { later = cut.cause.later; calm = tt; failed = λ _. cut.cause.failed refl };
 }
 
 pub writes_longer : {T E : Type 0} {a : List ℕ} {before after : Option (List ℕ)} {f g : ℕ} {result : Result T E} →
@@ -86,7 +93,7 @@ pub writes_none : {T E : Type 0} {told : Option (List ℕ)} {f : ℕ} {t : T} �
 writes_none {told = told} = record {
   written = sym (with_more_nothing told);
   cut = tt;
-  cause = record { later = omega arith; failed = λ err. absurd (cc) };
+  cause = record { later = omega arith; calm = refl; failed = λ err. absurd (cc) };
 }
 
 -- Parts of a list, written one by one: one more, one that was cut, and all.

@@ -31,12 +31,6 @@ pub record Writes {T E : Type 0} (text : List ℕ) (before after : Option (List 
   pub cut : OnErr result (IsCut text before after)
   pub cause : HasCause faults now result
 
--- Of a text a front went out, and this waits.
-pub record Waits (text : List ℕ) (before : Option (List ℕ)) (waiting : List ℕ) (after : Option (List ℕ)) : Type 0 where
-  pub gone : List ℕ
-  pub taken : after ≡ with_more gone before
-  pub all : gone ++ waiting ≡ text
-
 -- Bytes went from the front of what was left to the end of those that a reader has, where they are told.
 abbrev pub Gathers : Option (List ℕ) → List ℕ → Option (List ℕ) → List ℕ → Type 0
 Gathers (Some left) got (Some rest) more = more ++ rest ≡ got ++ left

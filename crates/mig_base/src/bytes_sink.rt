@@ -1,4 +1,4 @@
-ghost use Rattle.std.specs.Prelude.{◌≡◌, ◌+◌, ◌<◌, ◌≤◌, ◌⊎◌, ◌++◌, ◌↔◌, Some, [], Contains, IfOk, IsErr, OnErr, OnOk, length, take, vec_capacity, vec_len};
+ghost use Rattle.std.specs.Prelude.{◌≡◌, ◌+◌, ◌<◌, ◌≤◌, ◌⊎◌, ◌++◌, ◌↔◌, Some, [], Contains, IfOk, IsErr, OnErr, length, take, vec_capacity, vec_len};
 ghost use Rattle.mig_base.specs.Count.{HasCause};
 ghost use Rattle.mig_base.specs.Memory.{next_number};
 ghost use Rattle.mig_base.specs.Stream.{with_more};
@@ -77,7 +77,6 @@ impl Sink for BytesSink {
         ensures whole { IfOk result (λ n. n ≡ length piece.now) }
         ensures failed { IsErr result ↔ (Contains self.old.fails (next_number self.old.calls)
             ⊎ (self.old.room < length self.old.bytes + length piece.now)) }
-        ensures calm { OnOk result (self.new.faults ≡ self.old.faults) }
         ensures rest { self.new ≡ record self.old {
           bytes = self.new.bytes;
           calls = next_number self.old.calls;

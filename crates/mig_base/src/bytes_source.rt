@@ -1,4 +1,4 @@
-ghost use Rattle.std.specs.Prelude.{◌≡◌, ◌≤◌, ◌↔◌, Some, Contains, IfOk, IsErr, OnErr, OnOk, drop, length, min, take};
+ghost use Rattle.std.specs.Prelude.{◌≡◌, ◌≤◌, ◌↔◌, Some, Contains, IfOk, IsErr, OnErr, drop, length, min, take};
 ghost use Rattle.mig_base.specs.Count.{HasCause};
 ghost use Rattle.mig_base.specs.Memory.{next_number};
 ghost use Rattle.mig_base.specs.Stream.{Takes};
@@ -65,7 +65,6 @@ impl Source for BytesSource {
         // As much as fits is given, but at the listed calls.
         ensures count { IfOk result (λ n. n ≡ min (min (length self.old.left) (length buf.old)) self.old.most) }
         ensures failed { IsErr result ↔ Contains self.old.fails (next_number self.old.calls) }
-        ensures calm { OnOk result (self.new.faults ≡ self.old.faults) }
         ensures rest { self.new ≡ record self.old {
           left = self.new.left;
           calls = next_number self.old.calls;

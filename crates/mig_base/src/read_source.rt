@@ -1,4 +1,4 @@
-ghost use Rattle.std.specs.Prelude.{◌≡◌, ◌≤◌, None, IfOk, OnOk, length};
+ghost use Rattle.std.specs.Prelude.{◌≡◌, ◌≤◌, None, IfOk, length};
 ghost use Rattle.std.specs.Io.KnownBytes.{ReadConsumes};
 ghost use Rattle.mig_base.specs.Count.{HasCause};
 
@@ -39,7 +39,6 @@ impl<R: Read> Source for ReadSource<R> {
     fn read(&mut self, buf: &mut [u8]) -> Result<usize, Failed>
         ensures within { IfOk result (λ n. n ≤ length buf.old) }
         ensures cause { HasCause self.old.faults self.new.faults result }
-        ensures calm { OnOk result (self.new.faults ≡ self.old.faults) }
 
         // What the reader gave is passed on.
         ensures read { ReadConsumes self.old.known self.new.known result buf.new }

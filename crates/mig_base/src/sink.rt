@@ -23,4 +23,16 @@ pub trait Sink {
         ensures taken { IfOk result (λ n. bytes self.new ≡ with_more (take n piece.now) (bytes self.old)) }
         ensures kept { OnErr result (bytes self.new ≡ bytes self.old) }
         ensures cause { HasCause (faults self.old) (faults self.new) result };
+
+    /// Hands on what was taken and stands in memory; a sink that keeps nothing back has nothing to do.
+    ///
+    /// # Errors
+    ///
+    /// `Failed` only where the count of faults rose.
+    fn flush(&mut self) -> Result<(), Failed>
+        ensures kept { bytes self.new ≡ bytes self.old }
+        ensures cause { HasCause (faults self.old) (faults self.new) result }
+    {
+        Ok(())
+    }
 }

@@ -67,7 +67,7 @@ pub fn collect<S: Source>(
     ensures too_long { IsErrOf result CollectRefusal.TooLong
         → IfSome (S.left source.old) (λ left. most < length left) }
     ensures fault { IsErrOf result CollectRefusal.Fault → RisesBy 1 (S.faults source.old) (S.faults source.new) }
-    ensures later { S.faults source.old ≤ S.faults source.new }
+    ensures calm { (IsErrOf result CollectRefusal.Fault → ⊥) → S.faults source.new ≡ S.faults source.old }
 {
     let mut piece = vec![in alloc; 0u8; PIECE]?;
     collect_through(alloc, source, most, &mut piece)
@@ -86,7 +86,7 @@ fn collect_through<S: Source>(
     ensures too_long { IsErrOf result CollectRefusal.TooLong
         → IfSome (S.left source.old) (λ left. most < length left) }
     ensures fault { IsErrOf result CollectRefusal.Fault → RisesBy 1 (S.faults source.old) (S.faults source.new) }
-    ensures later { S.faults source.old ≤ S.faults source.new }
+    ensures calm { (IsErrOf result CollectRefusal.Fault → ⊥) → S.faults source.new ≡ S.faults source.old }
 {
     let mut bytes = Vec::new(alloc);
     while bytes.len() <= most {
@@ -113,7 +113,7 @@ fn read_on<S: Source>(
     ensures end { IfOk result (λ n. n ≡ 0 → IfSome (S.left source.old) (λ left. left ≡ [])) }
     ensures reason { IsErrOf result CollectRefusal.TooLong → ⊥ }
     ensures fault { IsErrOf result CollectRefusal.Fault → RisesBy 1 (S.faults source.old) (S.faults source.new) }
-    ensures later { S.faults source.old ≤ S.faults source.new }
+    ensures calm { (IsErrOf result CollectRefusal.Fault → ⊥) → S.faults source.new ≡ S.faults source.old }
 {
     match source.read(piece) {
         Ok(count) => {

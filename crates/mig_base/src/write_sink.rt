@@ -1,5 +1,5 @@
-ghost use Rattle.std.specs.Prelude.{◌≡◌, ◌<◌, ◌≤◌, None, IfOk, OnOk, length};
-ghost use Rattle.std.specs.Io.KnownBytes.{WriteAppends};
+ghost use Rattle.std.specs.Prelude.{◌≡◌, ◌<◌, ◌≤◌, None, IfOk, length};
+ghost use Rattle.std.specs.Io.KnownBytes.{Keeps, WriteAppends};
 ghost use Rattle.mig_base.specs.Count.{HasCause};
 
 use crate::{Failed, Sink};
@@ -41,7 +41,6 @@ impl<W: Write> Sink for WriteSink<W> {
         ensures within { IfOk result (λ n. n ≤ length piece.now) }
         ensures some { IfOk result (λ n. 0 < length piece.now → 0 < n) }
         ensures cause { HasCause self.old.faults self.new.faults result }
-        ensures calm { OnOk result (self.new.faults ≡ self.old.faults) }
 
         // What the writer took is passed on.
         ensures wrote { WriteAppends self.old.known self.new.known result piece.now }
@@ -53,5 +52,18 @@ impl<W: Write> Sink for WriteSink<W> {
                 Err(Failed)
             }
         }
+    }
+
+    fn flush(&mut self) -> Result<(), Failed>
+        ensures cause { HasCause self.old.faults self.new.faults result }
+
+        // What the writer took stays.
+        ensures kept { Keeps self.old.known self.new.known }
+    {
+        if self.inner.flush().is_err() {
+            self.faults = self.faults.saturating_add(1);
+            return Err(Failed);
+        }
+        Ok(())
     }
 }

@@ -1,6 +1,6 @@
 use Rattle.std.specs.Prelude.{◌≡◌, ◌⊎◌, ℕ, ◌+◌, ◌-◌, ◌/◌, ◌%◌, ◌≤◌, ◌<◌, Bool, true, false, List, [], ◌∷◌, ◌++◌, Option, Some, length, map, slice_get, slice_set, take, All}
 use Rattle.std.specs.List.{AllByRecursion, flat_map, range_with_len}
-use Rattle.mig_base.specs.Count.{RisesBy}
+use Rattle.mig_base.specs.Count.{RisesIf}
 use Rattle.mig_base.specs.Stream.{IsCut, with_more}
 use Rattle.nvm_model.specs.declared.command.Command.{Command}
 use Rattle.nvm_model.specs.declared.command.Outcome.{Outcome}
@@ -403,8 +403,7 @@ pub record Went {M I : Type 0} (state : M → MediumState I) (moves : I → Step
   pub stages : List Stage
   pub run : Chain (IsStage state moves) old stages new
   pub text : IsWritten old.task.script stages old.out.taken failed new.out.taken
-  pub later : old.out.faults ≤ new.out.faults
-  pub rose : failed ≡ true → RisesBy 1 old.out.faults new.out.faults
+  pub counted : RisesIf failed old.out.faults new.out.faults
 
 -- the media of one side, and its memory
 abbrev pub media_at : {M : Type 0} → Side → Snapshot M → List M

@@ -15,7 +15,6 @@ mod plan;
 mod port;
 mod posts;
 mod session;
-mod text;
 mod turn;
 mod whole;
 

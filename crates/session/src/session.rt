@@ -8,7 +8,6 @@ ghost use Rattle.session.specs.Sides.{IsNewSession, IsNext, move_set};
 
 use crate::lane_run::LaneRun;
 use crate::order::Order;
-use crate::text::Text;
 use crate::turn::{MOST_EVENTS, are_all_done};
 use hall::Plan;
 use manager::{Manager, MoveSet};
@@ -23,7 +22,7 @@ mod stages;
 const MOST_PIECES: usize = 64;
 
 /// What goes where the guests go: the script, the guests of its lanes, the order of pieces, the manager of their move, and
-/// room for a turn and for text.
+/// room for a turn.
 #[derive(Drop)]
 pub struct Session {
     script: Script,
@@ -38,7 +37,6 @@ pub struct Session {
     plan: Plan,
     // The events of a turn.
     events: Vec<Line>,
-    text: Text,
 }
 
 impl Model for Session {
@@ -90,7 +88,6 @@ impl Session {
         let plan = Plan::make(alloc, head.lanes, MOST_PIECES * head.burst as usize)?;
         let events = Vec::with_capacity(alloc, MOST_EVENTS * count)?;
         let runs = make_runs(alloc, &script)?;
-        let text = Text::make(alloc)?;
         Ok(Session {
             script,
             runs,
@@ -101,7 +98,6 @@ impl Session {
             manager,
             plan,
             events,
-            text,
         })
     }
 

@@ -2,9 +2,7 @@
 //! exactly the text that a script has, or a front of it and the sink's count of faults rose.
 #![tactic(auto)]
 
-ghost use Rattle.std.specs.Prelude.{◌≡◌, OnErr, OnOk};
-ghost use Rattle.mig_base.specs.Count.{HasCause};
-ghost use Rattle.mig_base.specs.Stream.{IsCut, Writes, with_more};
+ghost use Rattle.mig_base.specs.Stream.{Writes};
 ghost use Rattle.nvm_model.specs.ScriptText.{IsHead, IsScript};
 ghost use Rattle.show.specs.ShowText.{controller_text, namespace_line, namespace_text, shelves_line, show_text};
 
@@ -17,18 +15,17 @@ use line_buf::{LineBuf, write_line};
 use mig_base::{Failed, Sink};
 use nvm_model::{Head, Script};
 
-/// Writes what a script asks for, a line per `send`.
+/// Writes what a script asks for, a line per `send`, and flushes the sink.
 ///
 /// # Errors
 ///
 /// `Failed` only where the sink's count of faults rose. A front of the text was written then.
 pub fn show<K: Sink>(s: &Script, sink: &mut K) -> Result<(), Failed>
     requires { IsScript s.now }
-    ensures written { OnOk result (K.bytes sink.new ≡ with_more (show_text s.now) (K.bytes sink.old)) }
-    ensures cut { OnErr result (IsCut (show_text s.now) (K.bytes sink.old) (K.bytes sink.new)) }
-    ensures cause { HasCause (K.faults sink.old) (K.faults sink.new) result }
+    ensures { Writes (show_text s.now) (K.bytes sink.old) (K.bytes sink.new) (K.faults sink.old) (K.faults sink.new) result }
 {
-    write_parts(s, sink)
+    write_parts(s, sink)?;
+    sink.flush()
 }
 
 /// The controller, the namespace, the lanes, and the digests.

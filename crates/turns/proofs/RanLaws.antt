@@ -24,8 +24,7 @@ ran {M} {I} {state} {moves} {old} {new} {failed} w over =
       never_fell = rises.0;
       causes = rises.1;
       text = w.text;
-      later = w.later;
-      rose = w.rose;
+      counted = w.counted;
       ended = λ is t blocks tells. run_ended state moves t blocks old w.stages new tells w.run (over is);
       stopped = λ is t blocks tells. run_stopped state moves t blocks old new tells (subst (λ (f : Bool). Went state moves old f new) is w);
     }

@@ -1,7 +1,7 @@
 use Rattle.std.proofs.Common.{◌≡◌, ℕ, ◌≤◌, Bool, true, false, List, [], ◌∷◌, ◌++◌, Option, refl, sym, ap, subst, ◌∙◌, append_assoc, append-nil, arith}
 use Rattle.std.specs.Prelude.{Result, Ok, Err, is_err}
 use Rattle.std.proofs.lemmas.Grind.{flat_map-append}
-use Rattle.mig_base.specs.Count.{RisesBy}
+use Rattle.mig_base.specs.Count.{RisesIf}
 use Rattle.mig_base.specs.Stream.{IsCut, Writes, with_more}
 use Rattle.mig_base.proofs.WriteLemmas.{with_more_nothing, written_more}
 use Rattle.nvm_model.specs.declared.line.Line.{Line}
@@ -64,33 +64,32 @@ one_written s stage true old new sent = ([], stage, refl, subst (λ (b : Option 
 
 -- no stage
 pub went_none : {M I : Type 0} {state : M → MediumState I} {moves : I → Step → Bool → I → Type 0} (old : Snapshot M) → Went state moves old false old
-went_none old = record { stages = []; run = refl; text = sym (with_more_nothing old.out.taken); later = omega arith; rose = λ e. absurd cc }
+went_none old = record { stages = []; run = refl; text = sym (with_more_nothing old.out.taken); counted = refl }
 
 -- one stage, and its text
 pub went_stage : {M I : Type 0} {state : M → MediumState I} {moves : I → Step → Bool → I → Type 0} {old new : Snapshot M} {failed : Bool} (stage : Stage) → IsStage state moves old stage new →
-    IsSent (text_of (lines_of old.task.script stage)) old.out.taken failed new.out.taken → old.out.faults ≤ new.out.faults → (failed ≡ true → RisesBy 1 old.out.faults new.out.faults) → Went state moves old failed new
-went_stage {M} {I} {state} {moves} {old} {new} {failed} stage is sent later rose = record {
+    IsSent (text_of (lines_of old.task.script stage)) old.out.taken failed new.out.taken → RisesIf failed old.out.faults new.out.faults → Went state moves old failed new
+went_stage {M} {I} {state} {moves} {old} {new} {failed} stage is sent counted = record {
   stages = stage ∷ [];
   run = chain_one (IsStage state moves) old stage new is;
   text = one_written old.task.script stage failed old.out.taken new.out.taken sent;
-  later = later;
-  rose = rose;
+  counted = counted;
 }
 
 sent_by : {T E : Type 0} (text : List ℕ) (old new : Option (List ℕ)) (faults now : ℕ) (result : Result T E) → Writes text old new faults now result → IsSent text old (is_err result) new
 sent_by text old new faults now (Ok t) w = w.written
 sent_by text old new faults now (Err e) w = w.cut
 
-rose_by : {T E : Type 0} (text : List ℕ) (old new : Option (List ℕ)) (faults now : ℕ) (result : Result T E) → Writes text old new faults now result → is_err result ≡ true → RisesBy 1 faults now
-rose_by text old new faults now (Ok t) w e = absurd cc
-rose_by text old new faults now (Err e) w is = w.cause.failed is
+counted_by : {T E : Type 0} (text : List ℕ) (old new : Option (List ℕ)) (faults now : ℕ) (result : Result T E) → Writes text old new faults now result → RisesIf (is_err result) faults now
+counted_by text old new faults now (Ok t) w = w.cause.calm
+counted_by text old new faults now (Err e) w = w.cause.failed refl
 
 -- the same by the call that wrote it
 pub went_sent : {M I T E : Type 0} {state : M → MediumState I} {moves : I → Step → Bool → I → Type 0} {old new : Snapshot M} {result : Result T E} (stage : Stage) → IsStage state moves old stage new →
     Writes (text_of (lines_of old.task.script stage)) old.out.taken new.out.taken old.out.faults new.out.faults result → Went state moves old (is_err result) new
 went_sent {old} {new} {result} stage is w =
     let text = text_of (lines_of old.task.script stage) in
-    went_stage stage is (sent_by text old.out.taken new.out.taken old.out.faults new.out.faults result w) w.cause.later (rose_by text old.out.taken new.out.taken old.out.faults new.out.faults result w)
+    went_stage stage is (sent_by text old.out.taken new.out.taken old.out.faults new.out.faults result w) (counted_by text old.out.taken new.out.taken old.out.faults new.out.faults result w)
 
 -- a run that went on, and went on again
 pub went_more : {M I : Type 0} {state : M → MediumState I} {moves : I → Step → Bool → I → Type 0} {old mid new : Snapshot M} {failed : Bool} → Went state moves old false mid → Went state moves mid failed new → Went state moves old failed new
@@ -101,8 +100,7 @@ went_more {M} {I} {state} {moves} {old} {mid} {new} {failed} a b =
       stages = a.stages ++ b.stages;
       run = chain_more (IsStage state moves) old a.stages mid b.stages new a.run b.run;
       text = stages_written old.task.script a.stages b.stages failed old.out.taken mid.out.taken new.out.taken a.text text;
-      later = omega (arith, a.later, b.later);
-      rose = λ e. omega (arith, a.later, b.rose e);
+      counted = subst (λ (n : ℕ). RisesIf failed n new.out.faults) a.counted b.counted;
     }
 
 -- a text went out from where the run stood

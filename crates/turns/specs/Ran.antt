@@ -1,6 +1,6 @@
 use Rattle.std.specs.Prelude.{◌≡◌, ℕ, ◌≤◌, Bool, true, false, List, length}
 use Rattle.std.specs.List.{flat_map}
-use Rattle.mig_base.specs.Count.{NeverFall, RiseBy, RisesBy}
+use Rattle.mig_base.specs.Count.{NeverFall, RiseBy, RisesIf}
 use Rattle.nvm_model.specs.declared.script.Script.{Script}
 use Rattle.nvm_model.specs.declared.trace.Step.{Step}
 use Rattle.nvm_model.specs.Chain.{Chain}
@@ -23,8 +23,7 @@ pub record Ran {M I : Type 0} (state : M → MediumState I) (moves : I → Step 
   pub never_fell : NeverFall (faults_of state old) (faults_of state new)
   pub causes : RiseBy (faults_shown (lines_in old.task.script stages)) (faults_of state old) (faults_of state new)
   pub text : IsWritten old.task.script stages old.out.taken failed new.out.taken
-  pub later : old.out.faults ≤ new.out.faults
-  pub rose : failed ≡ true → RisesBy 1 old.out.faults new.out.faults
+  pub counted : RisesIf failed old.out.faults new.out.faults
   -- where the media told their blocks at the start
   pub ended : failed ≡ false → (s : Script) (blocks : List (List ℕ)) → Tells state s blocks old → HasRun state s blocks old new (lines_in s stages)
   pub stopped : failed ≡ true → (s : Script) (blocks : List (List ℕ)) → Tells state s blocks old → HasStopped state s blocks old new

@@ -23,6 +23,7 @@ use manager::{MediumFault, Pause};
 use mig_base::{Failed, Sink};
 use mig_medium::Medium;
 use nvm_model::{Line, RunPhase, Side};
+use transcript::write_lines;
 
 impl Session {
     /// Begins: writes the first two lines.
@@ -38,7 +39,7 @@ impl Session {
         ensures session { self.new ≡ record self.old { phase = Running } }
     {
         self.phase = RunPhase::Running;
-        self.text.write(&[Line::Title, Line::Ready], out)
+        write_lines(&[Line::Title, Line::Ready], out)
     }
 
     /// Does a turn and writes its lines.
@@ -60,7 +61,7 @@ impl Session {
             at,
         );
         self.ahead = one_less(self.ahead);
-        self.text.write(&self.events, out)
+        write_lines(&self.events, out)
     }
 
     /// Does turns until the migration is due, or until the end, and says whether the migration is due.
@@ -96,7 +97,7 @@ impl Session {
     {
         self.phase = RunPhase::Suspended;
         self.ahead = None;
-        self.text.write(&[Line::Migrate, Line::Suspend], out)
+        write_lines(&[Line::Migrate, Line::Suspend], out)
     }
 
     /// Moves the guests to the other side, or gives up where a call of a medium fails.
@@ -150,7 +151,7 @@ impl Session {
             },
             Line::ResumeTo,
         ];
-        self.text.write(&lines, out)?;
+        write_lines(&lines, out)?;
         Ok(Ending::Done)
     }
 
@@ -162,7 +163,7 @@ impl Session {
         ensures gave_up { IfOk result (λ ending. ending ≡ GaveUp) }
     {
         self.phase = RunPhase::Running;
-        self.text.write(&[Line::GiveUp], out)?;
+        write_lines(&[Line::GiveUp], out)?;
         Ok(Ending::GaveUp)
     }
 
@@ -182,7 +183,7 @@ impl Session {
         ensures ended { IfOk result (λ e. e ≡ ending) }
     {
         self.phase = RunPhase::Over;
-        self.text.write(&[Line::End], out)?;
+        write_lines(&[Line::End], out)?;
         Ok(ending)
     }
 }

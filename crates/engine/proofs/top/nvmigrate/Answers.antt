@@ -2,7 +2,7 @@ use Rattle.std.proofs.Common.{ap, refl}
 use Rattle.nvm_model.specs.Medium.{sizes_in}
 use Rattle.engine.specs.declared.status.Status.TheVariants.{Done, GaveUp, WriteFault}
 use Rattle.engine.proofs.SizeLemmas.{has_shelves, has_other_shelves}
-use Rattle.engine.proofs.TopLemmas.{gives_up, is_run}
+use Rattle.engine.proofs.TopLemmas.{counted, gives_up, is_run}
 use Rattle.engine.proofs.top.nvmigrate.Goals as goal
 
 pub open_places-requires-clause-sizes : goal.open_places-requires-clause-sizes
@@ -27,3 +27,12 @@ pub returns-in-Err-run_places-clause-ran : goal.returns-in-Err-run_places-clause
 returns-in-Err-run_places-clause-ran g c = λ blocks shelf runs.
     is_run WriteFault c.in-Ok.ensures.taken.0 c.in-Ok.ensures.spelled c.in-Ok.ensures.taken.1 c.in-Ok-open_places.ensures.opened.0 c.in-Ok-open_places.ensures.opened.1 c.in-Err-run_places.ensures.gone
     (record { failed = refl; gave_up = tt })
+
+pub returns-in-Ok-Done-clause-write_fault : goal.returns-in-Ok-Done-clause-write_fault
+returns-in-Ok-Done-clause-write_fault g c = counted c.in-Ok-Done.ensures.gone
+
+pub returns-in-Ok-GaveUp-clause-write_fault : goal.returns-in-Ok-GaveUp-clause-write_fault
+returns-in-Ok-GaveUp-clause-write_fault g c = counted c.in-Ok-GaveUp.ensures.gone
+
+pub returns-in-Err-run_places-clause-write_fault : goal.returns-in-Err-run_places-clause-write_fault
+returns-in-Err-run_places-clause-write_fault g c = counted c.in-Err-run_places.ensures.gone

@@ -6,7 +6,7 @@ abbrev pub invariant-loop-sent : goal.invariant-loop-sent
 invariant-loop-sent g l =
     (l.sent ≤ length l.piece)
     × (g.K.Sink.bytes l.sink ≡ with_more (take l.sent l.piece) (g.K.Sink.bytes l.initial.sink))
-    × (g.K.Sink.faults l.initial.sink ≤ g.K.Sink.faults l.sink)
+    × (g.K.Sink.faults l.sink ≡ g.K.Sink.faults l.initial.sink)
 
 abbrev pub decreases-loop-sent : goal.decreases-loop-sent
 decreases-loop-sent g l = length l.piece - l.sent
