@@ -2,7 +2,8 @@ use Rattle.std.proofs.Common.{◌≡◌, ℕ, ◌-◌, ◌<◌, ◌≤◌, List,
 use Rattle.nvm_model.specs.declared.piece.Piece.{Piece}
 use Rattle.nvm_ring.specs.declared.place.BadDoorbell.{BadDoorbell}
 use Rattle.hall.specs.Plan.{PlanState, pieces_of}
-use Rattle.controller.specs.Pair.{AtLane, ControllerState, IsSameButPair, IsSameButPieces, PairState, RingsCq, no_pair, pair_of, with_pieces}
+use Rattle.ctl_state.specs.Controller.{ControllerState, PairState, no_pair, pair_of}
+use Rattle.controller.specs.Pair.{AtLane, IsSameButPair, IsSameButPieces, RingsCq, with_pieces}
 
 -- Of a controller one pair changed, of a plan the pieces of one lane.
 

@@ -9,10 +9,14 @@
 mod bounds;
 mod image;
 mod parts;
+mod phase;
+mod refusal;
 
 pub use image::{Image, PairState};
 pub use nvm_ring::RingState;
 pub use parts::{PartRefusal, Parts, image_is_taken};
+pub use phase::Phase;
+pub use refusal::Refusal;
 
 #[cfg(test)]
 mod tests;

@@ -8,7 +8,8 @@ use Rattle.nvm_model.specs.World.{Lane, new_lane}
 use Rattle.nvm_blocks.specs.Namespace.{NamespaceState}
 use Rattle.guest_ram.specs.Window.{WindowState}
 use Rattle.hall.specs.Plan.{PlanState, pieces_of}
-use Rattle.controller.specs.Pair.{ControllerState, IsSameButPair, PairState, no_pair, pair_of, IsPlanned, PlansLane}
+use Rattle.ctl_state.specs.Controller.{ControllerState, PairState, no_pair, pair_of}
+use Rattle.controller.specs.Pair.{IsSameButPair, IsPlanned, PlansLane}
 use Rattle.controller.proofs.PairLemmas.{other_pair, other_pieces}
 use Rattle.turns.specs.Parts.{SoFar, Leads}
 use Rattle.turns.proofs.PartLaws.{one_did}

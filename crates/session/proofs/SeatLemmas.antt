@@ -8,7 +8,8 @@ use Rattle.nvm_blocks.specs.Namespace.{HasAppliedIn, NamespaceState}
 use Rattle.nvm_blocks.specs.Work.{IsSameButData}
 use Rattle.guest_ram.specs.Window.{WindowState, data_pages, no_window}
 use Rattle.controller.specs.Changes.{Notes}
-use Rattle.controller.specs.Pair.{ControllerState, PairState, IsSameButPair}
+use Rattle.ctl_state.specs.Controller.{ControllerState, PairState}
+use Rattle.controller.specs.Pair.{IsSameButPair}
 use Rattle.session.specs.Lanes.{window_of, Stands, HaveWindows, IsWindowOf}
 use Rattle.session.specs.Seats.{DoesPieceAt, IsSameButWindow, HasSeat, IsSameButSeat}
 use Rattle.nvm_model.specs.declared.script.Script.{Script}

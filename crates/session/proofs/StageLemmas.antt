@@ -10,9 +10,10 @@ use Rattle.nvm_model.specs.History.{Complete}
 use Rattle.nvm_model.specs.Medium.{IsAt, MediumState}
 use Rattle.nvm_model.specs.Text.{text_of}
 use Rattle.nvm_model.specs.World.{Lane}
-use Rattle.controller.specs.Pair.{ControllerState, PairState, no_pair, outcomes_of, pair_of, worked}
-use Rattle.controller.specs.Admin.{image_of, with_rings}
-use Rattle.controller.proofs.AdminLemmas.{length-with_images}
+use Rattle.ctl_state.specs.Controller.{ControllerState, PairState, no_pair, pair_of}
+use Rattle.controller.specs.Pair.{outcomes_of, worked}
+use Rattle.ctl_state.specs.Admin.{image_of, with_rings}
+use Rattle.ctl_state.proofs.AdminLemmas.{length-with_images}
 use Rattle.ctl_state.specs.declared.image.PairState.{PairState as PairImage}
 use Rattle.manager.specs.Move.{ManagerState, gone_on_with}
 use Rattle.nvm_model.specs.declared.command.Command.{Command}
@@ -42,7 +43,7 @@ use Rattle.session.proofs.AllLanesLemmas.{all_lanes, quiet_at}
 use Rattle.session.proofs.RestLemmas.{complete_is, done_is}
 use Rattle.turns.proofs.CopyLaws.{calls_along}
 use Rattle.manager.proofs.StateLemmas.{rings_at}
-use Rattle.controller.specs.declared.controller.Phase.TheVariants.{Running as Started}
+use Rattle.ctl_state.specs.declared.phase.Phase.TheVariants.{Running as Started}
 
 -- What code did as stages of a run, whatever run it stood for.
 

@@ -21,7 +21,8 @@ use Rattle.nvm_blocks.specs.Work.{IsSameButData}
 use Rattle.guest_ram.specs.Window.{WindowState, data_pages}
 use Rattle.hall.specs.Plan.{PlanState, pieces_of}
 use Rattle.lanes.specs.Guest.{GuestState}
-use Rattle.controller.specs.Pair.{ControllerState, PairState, lane_pieces, outcomes_of, pair_of, worked, IsSameButPair, IsPlanned}
+use Rattle.ctl_state.specs.Controller.{ControllerState, PairState, pair_of}
+use Rattle.controller.specs.Pair.{lane_pieces, outcomes_of, worked, IsSameButPair, IsPlanned}
 use Rattle.turns.proofs.NextPieceLaws.{lanes_finished}
 use Rattle.nvm_model.specs.Run.{Here, IsPiece, MayBeNext, NoneLeft, piece_line}
 use Rattle.session.specs.declared.lane_run.LaneRun.{LaneRun}

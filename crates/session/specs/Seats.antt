@@ -11,9 +11,10 @@ use Rattle.nvm_model.specs.World.{Lane}
 use Rattle.nvm_blocks.specs.Namespace.{HasRoom, IsForNamespace, IsSameButEntries, SameShelves, block_count, media_of}
 use Rattle.nvm_blocks.specs.Work.{IsSameButData}
 use Rattle.guest_ram.specs.Window.{WindowState, data_pages, no_window}
-use Rattle.controller.specs.declared.controller.Phase.TheVariants.{Running}
+use Rattle.ctl_state.specs.declared.phase.Phase.TheVariants.{Running}
 use Rattle.controller.specs.Changes.{Notes}
-use Rattle.controller.specs.Pair.{IsSameButPair, pair_of}
+use Rattle.ctl_state.specs.Controller.{pair_of}
+use Rattle.controller.specs.Pair.{IsSameButPair}
 use Rattle.session.specs.declared.lane_run.LaneRun.{LaneRun}
 use Rattle.session.specs.Lanes.{IsRunOf, Stands, window_of}
 use Rattle.session.specs.Place.{IsPlaceOf, PlaceState}

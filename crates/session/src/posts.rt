@@ -3,7 +3,8 @@ ghost use Rattle.std.specs.Prelude.{◌≡◌, ◌+◌, ◌*◌, ◌≤◌, ◌+
 ghost use Rattle.nvm_model.specs.ScriptText.{IsHead};
 ghost use Rattle.nvm_model.specs.Turn.{InLanes, PostsAll};
 ghost use Rattle.nvm_model.specs.World.{Lane};
-ghost use Rattle.controller.specs.Pair.{IsSameButPair, pair_of, post_line};
+ghost use Rattle.ctl_state.specs.Controller.{pair_of};
+ghost use Rattle.controller.specs.Pair.{IsSameButPair, post_line};
 ghost use Rattle.turns.specs.Parts.{Leads};
 ghost use Rattle.session.specs.LaneParts.{HasMore, IsFree, IsSeat, seat_of};
 ghost use Rattle.session.specs.Lanes.{Stands};

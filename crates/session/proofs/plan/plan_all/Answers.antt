@@ -1,6 +1,6 @@
 use Rattle.std.proofs.Common.{◌≡◌, ◌∙◌, ◌<◌, ◌-◌, [], refl, arith}
 use Rattle.mig_base.proofs.ListLemmas.{element_at}
-use Rattle.controller.specs.Pair.{pair_of}
+use Rattle.ctl_state.specs.Controller.{pair_of}
 use Rattle.session.specs.declared.lane_run.LaneRun.{LaneRun}
 use Rattle.turns.proofs.PartLaws.{none_yet, leads_none, all_led}
 use Rattle.session.proofs.AllLanesLemmas.{PlannedTo, all_lanes, quiet_at, led_more, more_more, planned_more, put_here, run_here, seat_at, seat_put}

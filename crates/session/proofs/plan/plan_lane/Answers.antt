@@ -2,7 +2,8 @@ use Rattle.std.proofs.Common.{◌≡◌, ◌∙◌, List, [], ℕ, ◌++◌, map
 use Rattle.nvm_values.specs.Status.{StatusPair}
 use Rattle.nvm_model.specs.declared.line.Line.{Line}
 use Rattle.nvm_model.specs.Turn.{Plans}
-use Rattle.controller.specs.Pair.{fetch_line, pair_of}
+use Rattle.ctl_state.specs.Controller.{pair_of}
+use Rattle.controller.specs.Pair.{fetch_line}
 use Rattle.controller.proofs.StepLemmas.{all_fetched}
 use Rattle.session.specs.LaneParts.{IsGuestStep, seat_of}
 use Rattle.session.specs.Lanes.{Stands}

@@ -1,6 +1,6 @@
 use Rattle.std.proofs.Common.{◌≡◌, ◌∙◌, ◌<◌, ◌≤◌, ℕ, [], refl, arith}
 use Rattle.mig_base.proofs.ListLemmas.{element_at}
-use Rattle.controller.specs.Pair.{PairState, no_pair, pair_of}
+use Rattle.ctl_state.specs.Controller.{PairState, no_pair, pair_of}
 use Rattle.session.specs.declared.lane_run.LaneRun.{LaneRun}
 use Rattle.turns.proofs.PartLaws.{none_yet, leads_none, all_led}
 use Rattle.session.proofs.AllLanesLemmas.{PostedTo, all_lanes, led_more, more_more, posted_more, put_here, run_here, seat_at, seat_put}

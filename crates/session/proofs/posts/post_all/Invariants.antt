@@ -1,7 +1,7 @@
 use Rattle.std.proofs.Common.{◌≡◌, ◌*◌, ◌-◌, ◌≤◌, ℕ, List, slice_index_or}
 use Rattle.nvm_model.specs.Turn.{PostsAll}
 use Rattle.nvm_model.specs.World.{Lane}
-use Rattle.controller.specs.Pair.{pair_of}
+use Rattle.ctl_state.specs.Controller.{pair_of}
 use Rattle.session.specs.declared.lane_run.LaneRun.{LaneRun}
 use Rattle.session.specs.LaneParts.{HasMore}
 use Rattle.session.specs.Phases.{Fit}
