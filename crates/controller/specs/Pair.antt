@@ -46,8 +46,7 @@ pub record AtLane (k : ℕ) (Step : PairState → PairState → Type 0) (old new
 -- one controller differs from another in the pair of lane k alone
 pub record IsSameButPair (k : ℕ) (old new : ControllerState) : Type 0 where
   pub count : length new.pairs ≡ length old.pairs
-  pub burst : new.burst ≡ old.burst
-  pub phase : new.phase ≡ old.phase
+  pub rest : new ≡ record old { pairs = new.pairs }
   pub others : (i : ℕ) → (i ≡ k - 1 → ⊥) → slice_index_or new.pairs i no_pair ≡ slice_index_or old.pairs i no_pair
 
 -- an empty pair of these sizes

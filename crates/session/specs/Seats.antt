@@ -64,6 +64,11 @@ pub record IsSameButSeat {M : Type 0} (k : ℕ) (old new : PlaceState M) : Type 
   pub pairs : IsSameButPair k old.controller new.controller
   pub windows : IsSameButWindow k old.windows new.windows
 
+-- a place where nothing but windows and the controller's pairs changed
+pub record IsSameButSeats {M : Type 0} (old new : PlaceState M) : Type 0 where
+  pub namespace : new.namespace ≡ old.namespace
+  pub controller : new.controller ≡ record old.controller { pairs = new.controller.pairs }
+
 -- A piece of a lane was done at a place: these calls were made of its media, and beside these its window's data pages
 -- alone may have changed, and the controller's queue, which has what the piece changed where changes are told.
 pub record DoesPieceAt {M I : Type 0} (state : M → MediumState I) (moves : I → Step → Bool → I → Type 0) (piece : Piece) (result : PieceResult) (old new : PlaceState M) : Type 0 where

@@ -15,6 +15,7 @@ ghost use Rattle.session.specs.LaneParts.{MayFetch, StandBoth, StandsFree, seat_
 ghost use Rattle.session.specs.Lanes.{Stands};
 ghost use Rattle.session.specs.Phases.{FitPlan, HasPlan, MayPlanAll};
 ghost use Rattle.session.specs.Place.{AreUndone, StandsFor};
+ghost use Rattle.session.specs.Seats.{IsSameButSeats};
 
 use crate::{LaneRun, Place};
 use controller::Controller;
@@ -42,7 +43,7 @@ pub(crate) fn plan_all<M: Medium>(
         (StandsFor script.now runs.new.items place.new.controller place.new.windows)
         lanes events.old.items events.new.items }
     ensures has { HasPlan script.now runs.new.items plan.new place.new × AreUndone runs.new.items }
-    ensures namespace { place.new.namespace ≡ place.old.namespace }
+    ensures kept { IsSameButSeats place.old place.new }
     ensures more { HasMore (384 * script.now.head.lanes) events.old events.new }
 {
     for at in 0..usize::from(script.head.lanes) {
