@@ -1,7 +1,7 @@
-use Rattle.std.proofs.Common.{◌≡◌, ℕ, ◌+◌, ◌/◌, ◌%◌, ◌&&◌, Bool, List, [], ◌∷◌, ◌++◌, append-nil, length, nat_lt, refl, sym, ap, subst, ◌∙◌, arith}
+use Rattle.std.proofs.Common.{◌≡◌, ℕ, ◌+◌, ◌*◌, ◌/◌, ◌%◌, Bool, List, [], ◌∷◌, ◌++◌, append-nil, length, refl, sym, ap, subst, ◌∙◌, arith}
 use Rattle.std.proofs.lemmas.Grind.{flat_map-append}
-use Rattle.std.specs.Bool.{MatchBool}
-use Rattle.std.specs.List.{flat_map}
+use Rattle.std.proofs.lemmas.Nat.{div-add-mod'}
+use Rattle.std.specs.List.{flat_map, range_with_len}
 use Rattle.nvm_values.specs.declared.op.Op.{Op}
 use Rattle.nvm_values.specs.declared.op.Op.TheVariants.{Flush, Write, Read, Compare, WriteZeroes, Verify}
 use Rattle.nvm_model.specs.declared.command.Outcome.{Outcome}
@@ -21,8 +21,9 @@ use Rattle.nvm_model.specs.Run.{PieceCalled}
 use Rattle.nvm_model.specs.Trace.{good_calls, moved_count, piece_calls, step_of}
 use Rattle.nvm_model.proofs.ChainLemmas.{chain_more, chain_one}
 use Rattle.guest_ram.specs.Window.{data_pages}
-use Rattle.nvm_blocks.specs.Namespace.{NamespaceState, media_of}
-use Rattle.data_queue.specs.Log.{Posted, QueueState}
+use Rattle.nvm_blocks.specs.Namespace.{NamespaceState, SameShelves, media_of}
+use Rattle.nvm_blocks.proofs.NamespaceLaws.{same_more, same_stay}
+use Rattle.data_queue.specs.Log.{QueueState}
 use Rattle.ctl_state.specs.declared.phase.Phase.{Phase}
 use Rattle.ctl_state.specs.declared.phase.Phase.TheVariants as phase
 use Rattle.ctl_state.specs.Controller.{ControllerState, PairState}
@@ -33,40 +34,46 @@ use Rattle.session.specs.Moves.{Both, Stays, both}
 use Rattle.session.specs.Lanes.{window_of}
 use Rattle.session.specs.Place.{PlaceState}
 use Rattle.session.specs.Seats.{DoesPieceAt, DropsEntries, IsSameButSeats}
-use Rattle.session.specs.Served.{HasLeft, IsNow, Leaves, Served, TellsPiece, put_count}
+use Rattle.session.specs.Served.{HasLeft, IsNow, Leaves, Served, TellsPiece, put_blocks}
 
 -- What turns leave of a place.
 
--- How many blocks the calls of a piece put.
+-- The blocks that the calls of a piece put.
 
-good_put : (step : ℕ → Step) → ((b : ℕ) → step b ≡ Put b) → (i first : ℕ) (moved : List (List ℕ)) (tail : List Call) → put_count (all_at i (good_calls step first moved ++ tail)) ≡ length moved + put_count (all_at i tail)
-good_put step is i first [] tail = omega arith
-good_put step is i first (bytes ∷ moved) tail = rw (is first) (omega (arith, good_put step is i (first + 1) moved tail))
+good_put : (shelf i : ℕ) (step : ℕ → Step) → ((b : ℕ) → step b ≡ Put b) → (first : ℕ) (moved : List (List ℕ)) (tail : List Call) →
+    put_blocks shelf (all_at i (good_calls step first moved ++ tail)) ≡ range_with_len (i * shelf + first) (length moved) ++ put_blocks shelf (all_at i tail)
+good_put shelf i step is first [] tail = refl
+good_put shelf i step is first (bytes ∷ moved) tail =
+    let next : i * shelf + (first + 1) ≡ i * shelf + first + 1 = omega arith in
+    rw (is first) (ap (λ (bs : List ℕ). (i * shelf + first) ∷ bs) (good_put shelf i step is (first + 1) moved tail ∙ ap (λ (b : ℕ). range_with_len b (length moved) ++ put_blocks shelf (all_at i tail)) next))
 
-good_got : (step : ℕ → Step) → ((b : ℕ) → step b ≡ Get b) → (i first : ℕ) (moved : List (List ℕ)) (tail : List Call) → put_count (all_at i (good_calls step first moved ++ tail)) ≡ put_count (all_at i tail)
-good_got step is i first [] tail = refl
-good_got step is i first (bytes ∷ moved) tail = rw (is first) (good_got step is i (first + 1) moved tail)
+good_got : (shelf i : ℕ) (step : ℕ → Step) → ((b : ℕ) → step b ≡ Get b) → (first : ℕ) (moved : List (List ℕ)) (tail : List Call) → put_blocks shelf (all_at i (good_calls step first moved ++ tail)) ≡ put_blocks shelf (all_at i tail)
+good_got shelf i step is first [] tail = refl
+good_got shelf i step is first (bytes ∷ moved) tail = rw (is first) (good_got shelf i step is (first + 1) moved tail)
 
-module _ (piece : Piece) (i first : ℕ) (memory moved : List (List ℕ)) where
-  those_put : (op : Op) → ((b : ℕ) → step_of op b ≡ Put b) → (outcome : Outcome) → length moved ≡ moved_count piece.span.count outcome → MovesTo piece.span.count outcome → put_count (all_at i (piece_calls (record piece { op = op }) first memory moved outcome)) ≡ done_blocks piece.span.count outcome
-  those_put op is Done long fits = good_put (step_of op) is i first moved [] ∙ omega (arith, long)
-  those_put op is (Faulted at) long fits = good_put (step_of op) is i first moved _ ∙ rw (is (first + at)) (omega (arith, long))
+module _ (piece : Piece) (shelf i first : ℕ) (memory moved : List (List ℕ)) where
+  abbrev calls_as : Op → Outcome → List At
+  calls_as op outcome = all_at i (piece_calls (record piece { op = op }) first memory moved outcome)
+
+  those_put : (op : Op) → ((b : ℕ) → step_of op b ≡ Put b) → (outcome : Outcome) → length moved ≡ moved_count piece.span.count outcome → MovesTo piece.span.count outcome → put_blocks shelf (calls_as op outcome) ≡ range_with_len (i * shelf + first) (done_blocks piece.span.count outcome)
+  those_put op is Done long fits = good_put shelf i (step_of op) is first moved [] ∙ append-nil _ ∙ ap (range_with_len (i * shelf + first)) long
+  those_put op is (Faulted at) long fits = good_put shelf i (step_of op) is first moved _ ∙ rw (is (first + at)) (append-nil _ ∙ ap (range_with_len (i * shelf + first)) long)
   those_put op is (Differs at) long fits = absurd fits
 
-  none_put : (op : Op) → ((b : ℕ) → step_of op b ≡ Get b) → (outcome : Outcome) → put_count (all_at i (piece_calls (record piece { op = op }) first memory moved outcome)) ≡ 0
-  none_put op is Done = good_got (step_of op) is i first moved []
-  none_put op is (Faulted at) = good_got (step_of op) is i first moved _ ∙ rw (is (first + at)) refl
-  none_put op is (Differs at) = good_got (step_of op) is i first moved []
+  none_put : (op : Op) → ((b : ℕ) → step_of op b ≡ Get b) → (outcome : Outcome) → put_blocks shelf (calls_as op outcome) ≡ []
+  none_put op is Done = good_got shelf i (step_of op) is first moved []
+  none_put op is (Faulted at) = good_got shelf i (step_of op) is first moved _ ∙ rw (is (first + at)) refl
+  none_put op is (Differs at) = good_got shelf i (step_of op) is first moved []
 
   -- those that it changed
-  counted : (same : ℕ → Type 0) (op : Op) (outcome : Outcome) → length moved ≡ moved_count piece.span.count outcome → OutcomeFits op same piece.span.count outcome →
-      put_count (all_at i (piece_calls (record piece { op = op }) first memory moved outcome)) ≡ changed_count (record piece { op = op }) outcome
-  counted same Write outcome long fits = those_put Write (λ b. refl) outcome long fits
-  counted same WriteZeroes outcome long fits = those_put WriteZeroes (λ b. refl) outcome long fits
-  counted same Read outcome long fits = none_put Read (λ b. refl) outcome
-  counted same Compare outcome long fits = none_put Compare (λ b. refl) outcome
-  counted same Verify outcome long fits = none_put Verify (λ b. refl) outcome
-  counted same Flush outcome long fits = absurd fits
+  changed_put : (same : ℕ → Type 0) (op : Op) (outcome : Outcome) → length moved ≡ moved_count piece.span.count outcome → OutcomeFits op same piece.span.count outcome →
+      put_blocks shelf (calls_as op outcome) ≡ range_with_len (i * shelf + first) (changed_count (record piece { op = op }) outcome)
+  changed_put same Write outcome long fits = those_put Write (λ b. refl) outcome long fits
+  changed_put same WriteZeroes outcome long fits = those_put WriteZeroes (λ b. refl) outcome long fits
+  changed_put same Read outcome long fits = none_put Read (λ b. refl) outcome
+  changed_put same Compare outcome long fits = none_put Compare (λ b. refl) outcome
+  changed_put same Verify outcome long fits = none_put Verify (λ b. refl) outcome
+  changed_put same Flush outcome long fits = absurd fits
 
 -- Pieces that were served.
 
@@ -77,6 +84,7 @@ served_none {M} {old = old} {new} same =
       pieces = [];
       called = ap (λ (n : NamespaceState M). media_of n) same.namespace;
       told = queue;
+      shelves = subst (SameShelves old.namespace) (sym same.namespace) (same_stay old.namespace);
       rest = same.controller ∙ ap (λ (q : QueueState). record old.controller { pairs = new.controller.pairs; queue = q }) (sym queue);
     }
 
@@ -87,21 +95,24 @@ served_cleared {M} {old = old} {new} drops =
       pieces = [];
       called = drops.entries.media;
       told = ap (λ (c : ControllerState). c.queue) same;
+      shelves = drops.entries.shelves;
       rest = same ∙ ap (λ (c : ControllerState). record old.controller { pairs = c.pairs; queue = c.queue }) (sym same);
     }
 
 pub served_piece : {M I : Type 0} {state : M → MediumState I} {moves : I → Step → Bool → I → Type 0} {piece : Piece} {result : PieceResult} {old new : PlaceState M} → DoesPieceAt state moves piece result old new → Served state moves old new
 served_piece {M} {I} {state} {moves} {piece} {result} {old} {new} does =
-    let calls : List At = all_at (piece.span.first / old.namespace.shelf) (piece_calls piece (piece.span.first % old.namespace.shelf) (data_pages (window_of old.windows piece.lane)) does.moved result.outcome) in
-    let one : PieceCalled = record { lane = piece.lane; cid = piece.cid; first = piece.span.first; count = piece.span.count; outcome = result.outcome; digest = digest_told piece.op result.digest; calls = calls } in
-    let count : put_count calls ≡ changed_count piece result.outcome = counted piece _ _ _ does.moved _ piece.op result.outcome does.done.count does.done.fits in
-    let queue : QueueState = old.controller.queue in
-    let logging : Bool = old.controller.logging in
+    let shelf : ℕ = old.namespace.shelf in
+    let first : ℕ = piece.span.first in
+    let count : ℕ = changed_count piece result.outcome in
+    let memory : List (List ℕ) = data_pages (window_of old.windows piece.lane) in
+    let calls : List At = all_at (first / shelf) (piece_calls piece (first % shelf) memory does.moved result.outcome) in
+    let one : PieceCalled = record { lane = piece.lane; cid = piece.cid; first = first; count = piece.span.count; outcome = result.outcome; digest = digest_told piece.op result.digest; calls = calls } in
+    let put = changed_put piece shelf (first / shelf) (first % shelf) memory does.moved _ piece.op result.outcome does.done.count does.done.fits ∙ ap (λ (b : ℕ). range_with_len b count) (div-add-mod' first shelf) in
     record {
       pieces = one ∷ [];
       called = subst (λ (cs : List At). Chain (IsAt state moves) (media_of old.namespace) cs (media_of new.namespace)) (sym (append-nil calls)) does.called;
-      told = chain_one (TellsPiece logging) queue one new.controller.queue
-          (subst (λ (n : ℕ). MatchBool (logging && queue.live && nat_lt 0 n) (Posted queue (record { span = record { first = piece.span.first; count = n } }) new.controller.queue) (new.controller.queue ≡ queue)) (sym count) does.noted.queue);
+      told = chain_one (TellsPiece old.controller.logging shelf) old.controller.queue one new.controller.queue (record { count = count; put = put; told = does.noted.queue });
+      shelves = does.shelves;
       rest = does.noted.others ∙ ap (λ (pairs : List PairState). record old.controller { pairs = pairs; queue = new.controller.queue }) (sym (ap (λ (c : ControllerState). c.pairs) does.noted.others));
     }
 
@@ -113,8 +124,10 @@ served_more {M} {I} {state} {moves} {a} {b} {c} x y =
       pieces = x.pieces ++ y.pieces;
       called = subst (λ (cs : List At). Chain (IsAt state moves) (media_of a.namespace) cs (media_of c.namespace)) (sym (flat_map-append (λ (p : PieceCalled). p.calls) x.pieces y.pieces))
           (chain_more (IsAt state moves) (media_of a.namespace) (calls x.pieces) (media_of b.namespace) (calls y.pieces) (media_of c.namespace) x.called y.called);
-      told = chain_more (TellsPiece a.controller.logging) a.controller.queue x.pieces b.controller.queue y.pieces c.controller.queue x.told
-          (subst (λ (l : Bool). Chain (TellsPiece l) b.controller.queue y.pieces c.controller.queue) logging y.told);
+      told = chain_more (TellsPiece a.controller.logging a.namespace.shelf) a.controller.queue x.pieces b.controller.queue y.pieces c.controller.queue x.told
+          (subst (λ (l : Bool). Chain (TellsPiece l a.namespace.shelf) b.controller.queue y.pieces c.controller.queue) logging
+          (subst (λ (n : ℕ). Chain (TellsPiece b.controller.logging n) b.controller.queue y.pieces c.controller.queue) x.shelves.shelf y.told));
+      shelves = same_more x.shelves y.shelves;
       rest = y.rest ∙ ap (λ (d : ControllerState). record d { pairs = c.controller.pairs; queue = c.controller.queue }) x.rest;
     }
 
