@@ -2,7 +2,7 @@
 
 ghost use Rattle.std.specs.Prelude.{◌≡◌, ◌≤◌, [], All, IfOk, length};
 ghost use Rattle.adm_values.specs.Command.{IsInRange};
-ghost use Rattle.controller.specs.Admin.{HasLength};
+ghost use Rattle.ctl_state.specs.Admin.{HasLength};
 
 use adm_values::{AdminCmd, What};
 use controller::{Controller, PairSet, Phase};

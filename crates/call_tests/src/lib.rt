@@ -15,6 +15,8 @@ mod entries;
 #[cfg(test)]
 mod identify;
 #[cfg(test)]
+mod managers;
+#[cfg(test)]
 mod media;
 #[cfg(test)]
 mod moves;

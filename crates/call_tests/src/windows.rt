@@ -91,7 +91,7 @@ fn copies_a_page(rt: HostRuntime) -> Result<(), Fail> {
     to.put_page(4, from.ram.page(4));
     let two = LaneNo::new(2).ok_or("lane 2")?;
     assert!(rt; first_byte(to.window(two), 0) == Some(0));
-    to.put_page(5, from.ram.page(5));
+    from.ram.copy_page(5, &mut to);
     assert!(rt; first_byte(to.window(two), 0) == Some(7));
     assert!(rt; first_byte(to.window(two), 1) == Some(0));
     Ok(())

@@ -15,20 +15,16 @@ use Rattle.ctl_state.specs.declared.image.Image.{Image}
 use Rattle.ctl_state.specs.declared.image.PairState.{PairState as PairImage}
 use Rattle.ctl_state.specs.Image.{IsImage, IsPair, header, image_bytes, none, pairs_bytes, pairs_of}
 use Rattle.ctl_state.specs.Parts.{image_size}
+use Rattle.ctl_state.proofs.AdminLemmas.{length-with_images}
 use Rattle.ctl_state.proofs.ImageLemmas.{whole_size}
-use Rattle.controller.specs.declared.controller.Phase.{Phase}
-use Rattle.controller.specs.declared.controller.Phase.TheVariants.{Running, Suspended, Loading}
-use Rattle.controller.specs.declared.refusal.Refusal.{Refusal}
-use Rattle.controller.specs.declared.refusal.Refusal.TheVariants.{IsSuspended, NotSuspended, BadDataQueue, DataQueueFull, BadSequence, InvalidField, InvalidOpcode}
-use Rattle.controller.specs.Admin.{Becomes, Does, FitsBuffer, Gets, GoesOnWith, HasLength, IsCreated, IsKept, Logs, Refuses, Resumes, Sets, Suspends, TakesPart, given, image_of, is_queue, state_bytes, with_images, with_rings}
-use Rattle.controller.specs.Pair.{ControllerState, PairState}
+use Rattle.ctl_state.specs.declared.phase.Phase.{Phase}
+use Rattle.ctl_state.specs.declared.phase.Phase.TheVariants.{Running, Suspended, Loading}
+use Rattle.ctl_state.specs.declared.refusal.Refusal.{Refusal}
+use Rattle.ctl_state.specs.declared.refusal.Refusal.TheVariants.{IsSuspended, NotSuspended, BadDataQueue, DataQueueFull, BadSequence, InvalidField, InvalidOpcode}
+use Rattle.ctl_state.specs.Admin.{Becomes, Does, FitsBuffer, Gets, GoesOnWith, HasLength, IsCreated, IsKept, Logs, Refuses, Resumes, Sets, Suspends, TakesPart, given, image_of, is_queue, state_bytes, with_images, with_rings}
+use Rattle.ctl_state.specs.Controller.{ControllerState, PairState}
 
 -- A pair more goes on with the rings of an image.
-
-pub length-with_images : (images : List PairImage) (pairs : List PairState) → length (with_images images pairs) ≡ length pairs
-length-with_images [] pairs = refl
-length-with_images (image ∷ images) [] = refl
-length-with_images (image ∷ images) (pair ∷ pairs) = ap suc (length-with_images images pairs)
 
 pub load_step : (images : List PairImage) (pairs : List PairState) (place : ℕ) (d : PairImage) (e : PairState) → place < length images → place < length pairs
     → slice_set (with_images (take place images) pairs) place (with_rings (slice_index_or images place d) (slice_index_or (with_images (take place images) pairs) place e)) ≡ with_images (take (suc place) images) pairs
@@ -167,7 +163,3 @@ did (what.CreateQueue cells) old new result bytes new_bytes between is =
     (refused old new BadDataQueue result between) is.0
 did (what.DeleteQueue queue) old new result bytes new_bytes between is =
     either (is_queue queue old) _ _ (IsKept old new) (becomes old (record old { queue = record old.queue { live = false }; logging = false }) new result between refl refl) (refused old new BadDataQueue result between) is.0
-
--- A command's own bytes need the buffer that the command names.
-pub fits_buffer : (c : AdminCmd) (n : ℕ) → IsCommand c → HasLength c.what n → FitsBuffer (command_bytes c) n
-fits_buffer c n is has = λ other other_is bytes. subst (λ (x : AdminCmd). HasLength x.what n) (sym (same_command other c other_is is bytes)) has

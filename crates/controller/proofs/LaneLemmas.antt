@@ -29,7 +29,8 @@ use Rattle.nvm_ring.proofs.QueueLemmas.{cq_stands, oldest_entry, ordered_fetched
 use Rattle.nvm_ring.proofs.RingLemmas.{cq_ring-push, cq_ring-unreaped, sq_ring-oldest, sq_ring-rest, sq_ring-some}
 use Rattle.guest_ram.specs.Window.{WindowState, data_pages}
 use Rattle.hall.specs.Plan.{PlanState}
-use Rattle.controller.specs.Pair.{FetchSteps, FetchesLane, FetchesTurn, IsAsked, MayFetch, PairState, PostSteps, PostsLane, PostsTurn, Stands, ended, fetch_line, free_places, next_completion, next_entry, outcomes_of, post_line, told_fetch, told_post, with_command, with_entry, with_post, worked}
+use Rattle.ctl_state.specs.Controller.{PairState}
+use Rattle.controller.specs.Pair.{FetchSteps, FetchesLane, FetchesTurn, IsAsked, MayFetch, PostSteps, PostsLane, PostsTurn, Stands, ended, fetch_line, free_places, next_completion, next_entry, outcomes_of, post_line, told_fetch, told_post, with_command, with_entry, with_post, worked}
 use Rattle.controller.proofs.StepLemmas.{all_fetched, ended_worked, posts_kept}
 use Rattle.controller.proofs.WorkLemmas.{worked_finished}
 

@@ -1,26 +1,34 @@
-use Rattle.std.proofs.Common.{◌≡◌, ℕ, ◌-◌, ◌<◌, ◌≤◌, List, [], ◌++◌, Result, Ok, Err, get_or, get_or-set_other, get_or-set_same, length, length-set, refl, ap, ◌∙◌, arith}
+use Rattle.std.proofs.Common.{◌≡◌, ℕ, ◌-◌, ◌<◌, ◌≤◌, List, [], ◌++◌, Result, Ok, Err, get_or, get_or-set_other, get_or-set_same, length, length-set, refl, sym, ap, ◌∙◌, arith}
 use Rattle.nvm_model.specs.declared.piece.Piece.{Piece}
 use Rattle.nvm_ring.specs.declared.place.BadDoorbell.{BadDoorbell}
 use Rattle.hall.specs.Plan.{PlanState, pieces_of}
-use Rattle.controller.specs.Pair.{AtLane, ControllerState, IsSameButPair, IsSameButPieces, PairState, RingsCq, no_pair, pair_of, with_pieces}
+use Rattle.ctl_state.specs.Controller.{ControllerState, PairState, no_pair, pair_of}
+use Rattle.controller.specs.Pair.{AtLane, IsSameButPair, IsSameButPieces, RingsCq, with_pieces}
 
 -- Of a controller one pair changed, of a plan the pieces of one lane.
 
 -- one controller and another that differs in the pair of lane k alone
 pub pair_same : {k : ℕ} (c : ControllerState) → IsSameButPair k c c
-pair_same c = record { count = refl; burst = refl; phase = refl; others = λ i other. refl }
+pair_same c = record { count = refl; rest = refl; others = λ i other. refl }
 
 pub pair_more : {k : ℕ} {a b c : ControllerState} → IsSameButPair k a b → IsSameButPair k b c → IsSameButPair k a c
-pair_more x y = record { count = y.count ∙ x.count; burst = y.burst ∙ x.burst; phase = y.phase ∙ x.phase; others = λ i other. y.others i other ∙ x.others i other }
+pair_more {c = c} x y = record {
+  count = y.count ∙ x.count;
+  rest = y.rest ∙ ap (λ (d : ControllerState). record d { pairs = c.pairs }) x.rest;
+  others = λ i other. y.others i other ∙ x.others i other;
+}
 
 -- a step of the pair of lane k alone
 pub pair_stepped : {k : ℕ} {Step : PairState → PairState → Type 0} {a b : ControllerState} → AtLane k Step a b → IsSameButPair k a b
 pair_stepped {k} {a = a} {b} at = record {
   count = ap (λ (c : ControllerState). length c.pairs) at.others ∙ length-set a.pairs (k - 1) (pair_of b k);
-  burst = ap (λ (c : ControllerState). c.burst) at.others;
-  phase = ap (λ (c : ControllerState). c.phase) at.others;
+  rest = at.others ∙ ap (λ (pairs : List PairState). record a { pairs = pairs }) (sym (ap (λ (c : ControllerState). c.pairs) at.others));
   others = λ i other. ap (λ (c : ControllerState). get_or c.pairs i no_pair) at.others ∙ get_or-set_other a.pairs (k - 1) i (pair_of b k) no_pair other;
 }
+
+-- which leaves the burst
+pub burst_stays : {k : ℕ} {old new : ControllerState} → IsSameButPair k old new → new.burst ≡ old.burst
+burst_stays same = ap (λ (c : ControllerState). c.burst) same.rest
 
 -- a doorbell leaves the commands, whatever was rung
 pub rung_commands : {value : ℕ} {old new : PairState} (result : Result (Unit {0}) BadDoorbell) → RingsCq value result old new → new.commands ≡ old.commands

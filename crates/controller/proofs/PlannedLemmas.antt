@@ -7,7 +7,8 @@ use Rattle.nvm_model.specs.World.{set_of}
 use Rattle.guest_ram.specs.Window.{WindowState, data_pages}
 use Rattle.hall.specs.Plan.{PlanState, pieces_of}
 use Rattle.hall.proofs.AheadLaws.{in_shelf}
-use Rattle.controller.specs.Pair.{FetchesTurn, IsFetched, IsPlanned, PairState, PlansLane, lane_pieces}
+use Rattle.ctl_state.specs.Controller.{PairState}
+use Rattle.controller.specs.Pair.{FetchesTurn, IsFetched, IsPlanned, PlansLane, lane_pieces}
 use Rattle.controller.proofs.NextLemmas.{IsNext, is_next, lane_few}
 use Rattle.controller.proofs.PairLemmas.{with_here, with_same}
 use Rattle.controller.proofs.ShelfLemmas.{lane_in_shelf}

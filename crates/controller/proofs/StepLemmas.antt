@@ -18,7 +18,8 @@ use Rattle.nvm_ring.specs.declared.place.BadDoorbell.{BadDoorbell}
 use Rattle.nvm_ring.specs.Moves.{IsReadBack, after_fetch, after_post}
 use Rattle.guest_ram.specs.Window.{WindowState, ctrl_written, data_pages}
 use Rattle.hall.specs.Plan.{PlanState}
-use Rattle.controller.specs.Pair.{FetchSteps, FetchesTurn, IsFetched, MayFetch, PairState, PostSteps, PostsTurn, after_pieces, command_pieces, ended, free_places, lane_pieces, next_command, next_completion, outcomes_of, told_fetch, told_post, with_command, with_entry, with_pieces, with_post, worked}
+use Rattle.ctl_state.specs.Controller.{PairState}
+use Rattle.controller.specs.Pair.{FetchSteps, FetchesTurn, IsFetched, MayFetch, PostSteps, PostsTurn, after_pieces, command_pieces, ended, free_places, lane_pieces, next_command, next_completion, outcomes_of, told_fetch, told_post, with_command, with_entry, with_pieces, with_post, worked}
 use Rattle.controller.specs.Parts.{HasFetched, HasPosted, TakesEntry}
 use Rattle.controller.proofs.PlanLemmas.{pieces_more, with_more}
 

@@ -7,7 +7,7 @@ use Rattle.nvm_model.specs.declared.command.Outcome.{Outcome}
 use Rattle.nvm_model.specs.declared.piece.Piece.{Piece}
 use Rattle.nvm_model.specs.declared.piece.PieceResult.{PieceResult}
 use Rattle.nvm_model.specs.Piece.{done_blocks}
-use Rattle.controller.specs.Pair.{ControllerState}
+use Rattle.ctl_state.specs.Controller.{ControllerState}
 
 -- How many blocks a piece changed, from its first on: those that a Write or a Write Zeroes did, also before a fault.
 abbrev pub changed_count : Piece → Outcome → ℕ

@@ -1,4 +1,3 @@
-pub mod Admin
 pub mod Changes
 pub mod Pair
 pub mod Parts

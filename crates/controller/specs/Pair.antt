@@ -31,43 +31,8 @@ use Rattle.nvm_cmd.specs.Answer.{job_of}
 use Rattle.nvm_cmd.specs.Cut.{piece_of}
 use Rattle.hall.specs.Plan.{PlanState, pieces_of}
 use Rattle.guest_ram.specs.Window.{WindowState, ctrl_written, data_pages}
-use Rattle.ctl_state.specs.Parts.{PartsState}
-use Rattle.data_queue.specs.Log.{QueueState}
-use Rattle.controller.specs.declared.controller.Phase.{Phase}
-
--- The controller's part of a queue pair: its ends of the two rings, the commands that were fetched in this turn as they
--- were then, what the last fetches and posts tell, and for how many commands of a turn it has room.
-pub record PairState : Type 0 where
-  pub sq : RingState
-  pub cq : CqState
-  pub commands : List Command
-  pub fetched : List (ℕ × StatusPair × ℕ)
-  pub posted : List (ℕ × StatusPair)
-  pub room : ℕ
-
--- A controller: its queue pairs, that of lane 1 first, the most fetches of a lane in a turn, the queue in which it tells
--- changes of user data and whether it tells them, and what it was fed of a state.
-pub record ControllerState : Type 0 where
-  pub pairs : List PairState
-  pub burst : ℕ
-  pub phase : Phase
-  pub queue : QueueState
-  pub logging : Bool
-  pub fed : PartsState
-
--- what a look-up past the last pair gives
-abbrev pub no_pair : PairState
-no_pair = record {
-  sq = record { size = 0; head = 0; tail = 0 };
-  cq = record { ring = record { size = 0; head = 0; tail = 0 }; phase = true };
-  commands = [];
-  fetched = [];
-  posted = [];
-  room = 0;
-}
-
-abbrev pub pair_of : ControllerState → ℕ → PairState
-pair_of c k = slice_index_or c.pairs (k - 1) no_pair
+use Rattle.ctl_state.specs.declared.phase.Phase.{Phase}
+use Rattle.ctl_state.specs.Controller.{ControllerState, PairState, no_pair, pair_of}
 
 -- the controller after the pair of lane k changed
 abbrev pub with_pair : ℕ → PairState → ControllerState → ControllerState
@@ -81,8 +46,7 @@ pub record AtLane (k : ℕ) (Step : PairState → PairState → Type 0) (old new
 -- one controller differs from another in the pair of lane k alone
 pub record IsSameButPair (k : ℕ) (old new : ControllerState) : Type 0 where
   pub count : length new.pairs ≡ length old.pairs
-  pub burst : new.burst ≡ old.burst
-  pub phase : new.phase ≡ old.phase
+  pub rest : new ≡ record old { pairs = new.pairs }
   pub others : (i : ℕ) → (i ≡ k - 1 → ⊥) → slice_index_or new.pairs i no_pair ≡ slice_index_or old.pairs i no_pair
 
 -- an empty pair of these sizes

@@ -9,7 +9,8 @@ use Rattle.nvm_model.specs.Piece.{join_status}
 use Rattle.nvm_ring.specs.Moves.{after_fetch}
 use Rattle.guest_ram.specs.Window.{WindowState, data_pages}
 use Rattle.hall.specs.Plan.{PlanState}
-use Rattle.controller.specs.Pair.{FetchSteps, IsFetched, MayFetch, PairState, PostSteps, free_places, lane_pieces, next_entry, with_pieces}
+use Rattle.ctl_state.specs.Controller.{PairState}
+use Rattle.controller.specs.Pair.{FetchSteps, IsFetched, MayFetch, PostSteps, free_places, lane_pieces, next_entry, with_pieces}
 
 -- Inside the crate.
 

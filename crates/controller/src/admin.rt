@@ -3,13 +3,12 @@ ghost use Rattle.std.specs.Prelude.{◌≡◌, ◌≤◌, ◌++◌, All, [], Opt
 ghost use Rattle.adm_values.specs.Command.{IsInRange};
 ghost use Rattle.ctl_state.specs.declared.image.Image.{Image as TheImage};
 ghost use Rattle.ctl_state.specs.Image.{IsImage, pairs_of};
-ghost use Rattle.controller.specs.Admin.{Answers, Creates, Deletes, Does, FitsBuffer, Gets, GoesOnWith, HasLength, IsKept, Logs, Resumes, Sets, Suspends, image_of, is_queue, with_images};
+ghost use Rattle.ctl_state.specs.Admin.{Answers, Creates, Deletes, Does, FitsBuffer, Gets, GoesOnWith, HasLength, IsKept, Logs, Resumes, Sets, Suspends, image_of, is_queue, with_images};
 
-use crate::controller::{Controller, Phase};
+use crate::controller::Controller;
 use crate::pair::Pair;
-use crate::refusal::Refusal;
 use adm_values::{AdminCmd, AdminCpl, What};
-use ctl_state::{Image, PairState, Parts};
+use ctl_state::{Image, PairState, Parts, Phase, Refusal};
 use guest_ram::Ram;
 use nvm_values::Status;
 

@@ -5,13 +5,14 @@ ghost use Rattle.guest_ram.specs.Window.{data_pages};
 ghost use Rattle.hall.specs.Plan.{pieces_of};
 ghost use Rattle.nvm_blocks.specs.Namespace.{HasAppliedIn, HasRoom, IsForNamespace, entries_of, with_entry};
 ghost use Rattle.nvm_blocks.specs.Work.{IsSameButData};
-ghost use Rattle.controller.specs.declared.controller.Phase.TheVariants.{Running, Loading};
-ghost use Rattle.controller.specs.Pair.{AtLane, FetchesLane, FetchesTurn, IsMade, PostsLane, PostsTurn, RingsCq, RingsReaped, RingsSq, pair_of};
+ghost use Rattle.ctl_state.specs.declared.phase.Phase.TheVariants.{Running, Loading};
+ghost use Rattle.ctl_state.specs.Controller.{pair_of};
+ghost use Rattle.controller.specs.Pair.{AtLane, FetchesLane, FetchesTurn, IsMade, PostsLane, PostsTurn, RingsCq, RingsReaped, RingsSq};
 ghost use Rattle.controller.specs.Changes.{Notes, changed_count};
 
 use crate::PairSet;
 use crate::pair::Pair;
-use ctl_state::Parts;
+use ctl_state::{Parts, Phase};
 use data_queue::{Change, DataQueue};
 use guest_ram::Window;
 use hall::Plan;
@@ -24,17 +25,6 @@ use nvm_values::{Op, Status};
 use std::alloc::Global;
 use std::marker::Model;
 use track::Tracker;
-
-/// What a controller does.
-#[derive(Clone, Copy, Debug, PartialEq, Eq)]
-pub enum Phase {
-    /// It fetches and posts.
-    Running,
-    /// It was suspended: it fetches nothing.
-    Suspended,
-    /// It takes the state that another controller left.
-    Loading,
-}
 
 /// A controller of from 1 to 8 queue pairs.
 #[derive(Drop)]
@@ -52,7 +42,7 @@ pub struct Controller {
 
 impl Model for Controller {
     ghost use Rattle.std.specs.Prelude.{◌≡◌, ◌≤◌, All, length};
-    ghost use Rattle.controller.specs.Pair.{ControllerState};
+    ghost use Rattle.ctl_state.specs.Controller.{ControllerState};
 
     ghost Value = { ControllerState };
 

@@ -8,7 +8,7 @@ mod admin;
 mod check;
 mod controller;
 mod pair;
-mod refusal;
 
-pub use controller::{Controller, Phase};
+pub use controller::Controller;
+pub use ctl_state::Phase;
 pub use nvm_model::LaneSet as PairSet;

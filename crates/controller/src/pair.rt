@@ -12,7 +12,7 @@ ghost use Rattle.nvm_cmd.specs.Cut.{piece_of};
 ghost use Rattle.hall.specs.Plan.{pieces_of};
 ghost use Rattle.controller.specs.Pair.{FetchesLane, FetchesTurn, IsFetched, PostsLane, PostsTurn, RingsCq, RingsReaped, RingsSq, command_pieces, free_places, new_pair, outcomes_of, with_pieces};
 ghost use Rattle.ctl_state.specs.Image.{IsPair as IsPairImage};
-ghost use Rattle.controller.specs.Admin.{image_of, with_rings};
+ghost use Rattle.ctl_state.specs.Admin.{image_of, with_rings};
 ghost use Rattle.controller.specs.Parts.{TakesEntry, joined};
 
 use crate::PairSet;
@@ -44,7 +44,7 @@ pub(crate) struct Pair {
 
 impl Model for Pair {
     ghost use Rattle.std.specs.Prelude.{vec_capacity};
-    ghost use Rattle.controller.specs.Pair.{PairState};
+    ghost use Rattle.ctl_state.specs.Controller.{PairState};
     ghost use Rattle.controller.specs.Parts.{HasRoom, IsPair};
 
     ghost Value = { PairState };

@@ -1,3 +1,4 @@
+pub mod AdminLemmas
 pub mod FollowsLemmas
 pub mod ImageLemmas
 pub mod PairLemmas

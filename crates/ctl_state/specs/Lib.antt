@@ -1,3 +1,5 @@
+pub mod Admin
 pub mod Bounds
+pub mod Controller
 pub mod Image
 pub mod Parts

@@ -3,8 +3,8 @@ use Rattle.nvm_model.specs.declared.script.Head.{Head}
 use Rattle.nvm_model.specs.declared.run.Side.{Side}
 use Rattle.nvm_model.specs.declared.run.Side.TheVariants.{Source, Destination}
 use Rattle.nvm_model.specs.Medium.{HaveSize, MediumState}
-use Rattle.controller.specs.declared.controller.Phase.{Phase}
-use Rattle.controller.specs.declared.controller.Phase.TheVariants.{Loading, Running}
+use Rattle.ctl_state.specs.declared.phase.Phase.{Phase}
+use Rattle.ctl_state.specs.declared.phase.Phase.TheVariants.{Loading, Running}
 use Rattle.session.specs.Opened.{IsNewPlace}
 use Rattle.session.specs.Place.{PlaceState}
 

@@ -5,7 +5,7 @@ ghost use Rattle.nvm_model.specs.ScriptText.{IsScript};
 ghost use Rattle.nvm_blocks.specs.Namespace.{media_of};
 ghost use Rattle.nvm_model.specs.Run.{start_of};
 ghost use Rattle.nvm_model.specs.Told.{serial};
-ghost use Rattle.controller.specs.declared.controller.Phase.TheVariants.{Loading, Running};
+ghost use Rattle.ctl_state.specs.declared.phase.Phase.TheVariants.{Loading, Running};
 ghost use Rattle.session.specs.Opened.{IsNewPlace};
 ghost use Rattle.session.specs.Sides.{IsNewSession, sink};
 ghost use Rattle.engine.specs.declared.status.Status.TheVariants.{Usage};

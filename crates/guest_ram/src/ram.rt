@@ -125,6 +125,16 @@ impl Ram {
         window.put_page(place.page, bytes);
     }
 
+    /// A window page, which both have, becomes in the other memory what it is here. Numbers count as in `page`.
+    pub fn copy_page(&self, page: u32, to: &mut Ram)
+        requires here { page < length (all_pages self.now) }
+        requires there { page < length (all_pages to.old) }
+        ensures pages { all_pages to.new ≡ slice_set (all_pages to.old) page (page_at (all_pages self.now) page) }
+        ensures shape { shape to.new ≡ shape to.old }
+    {
+        to.put_page(page, self.page(page));
+    }
+
     // The windows, lane 1's first.
     fn as_slice(&self) -> &[Window]
         ensures value { result.now ≡ self.now }

@@ -5,8 +5,8 @@ use Rattle.std.proofs.lemmas.List.Elements.{All-from_get_or}
 use Rattle.ctl_state.specs.declared.image.PairState.{PairState as PairImage}
 use Rattle.ctl_state.specs.Image.{IsPair, none}
 use Rattle.ctl_state.specs.Parts.{IsWhole, image_size}
-use Rattle.controller.specs.Admin.{image_of, state_bytes}
-use Rattle.controller.specs.Pair.{ControllerState, no_pair}
+use Rattle.ctl_state.specs.Admin.{image_of, state_bytes}
+use Rattle.ctl_state.specs.Controller.{ControllerState, no_pair}
 use Rattle.manager.specs.declared.manager.MovePhase.{MovePhase}
 use Rattle.manager.specs.declared.manager.MovePhase.TheVariants.{Stopped}
 use Rattle.manager.specs.declared.side.CopyAnswer.TheVariants.{Copied, Fault}

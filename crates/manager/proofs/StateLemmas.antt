@@ -4,10 +4,10 @@ use Rattle.ctl_state.specs.declared.image.PairState.{PairState as PairImage}
 use Rattle.ctl_state.specs.Image.{header, image_bytes, pairs_bytes, pairs_of}
 use Rattle.ctl_state.specs.Parts.{IsWhole, PartsState, kept}
 use Rattle.ctl_state.proofs.ImageLemmas.{image_taken, whole_same, whole_size}
-use Rattle.controller.specs.declared.controller.Phase.{Phase}
-use Rattle.controller.specs.declared.controller.Phase.TheVariants.{Running, Suspended, Loading}
-use Rattle.controller.specs.Admin.{AdminResult, FeedsPart, GoesOnWith, Sets, image_of, state_bytes, with_images, with_rings}
-use Rattle.controller.specs.Pair.{ControllerState, PairState}
+use Rattle.ctl_state.specs.declared.phase.Phase.{Phase}
+use Rattle.ctl_state.specs.declared.phase.Phase.TheVariants.{Running, Suspended, Loading}
+use Rattle.ctl_state.specs.Admin.{AdminResult, FeedsPart, GoesOnWith, Sets, image_of, state_bytes, with_images, with_rings}
+use Rattle.ctl_state.specs.Controller.{ControllerState, PairState}
 use Rattle.manager.specs.Move.{HasImage, gone_on_with}
 use Rattle.manager.specs.Parts.{size_of}
 use Rattle.std.specs.Prelude.{slice_index_or}

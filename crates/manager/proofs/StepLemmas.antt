@@ -5,9 +5,9 @@ use Rattle.std.proofs.lemmas.List.{length-take-le}
 use Rattle.adm_values.specs.declared.command.AdminCpl.{AdminCpl}
 use Rattle.adm_values.specs.declared.command.What.TheVariants.{Suspend, Resume}
 use Rattle.ctl_state.specs.Parts.{kept}
-use Rattle.controller.specs.declared.controller.Phase.TheVariants.{Running}
-use Rattle.controller.specs.Admin.{state_bytes}
-use Rattle.controller.specs.Pair.{ControllerState}
+use Rattle.ctl_state.specs.declared.phase.Phase.TheVariants.{Running}
+use Rattle.ctl_state.specs.Admin.{state_bytes}
+use Rattle.ctl_state.specs.Controller.{ControllerState}
 use Rattle.manager.specs.declared.side.Side.{Side}
 use Rattle.manager.specs.declared.side.Side.TheVariants.{From, To}
 use Rattle.manager.specs.Asks.{Ask, part_asks, state_asks}

@@ -4,9 +4,9 @@ use Rattle.ctl_state.specs.declared.image.Image.{Image}
 use Rattle.ctl_state.specs.declared.image.PairState.{PairState as PairImage}
 use Rattle.ctl_state.specs.Image.{IsImage, pairs_of}
 use Rattle.ctl_state.specs.Parts.{image_size}
-use Rattle.controller.specs.declared.controller.Phase.TheVariants as phase
-use Rattle.controller.specs.Admin.{image_of, with_images}
-use Rattle.controller.specs.Pair.{ControllerState, PairState}
+use Rattle.ctl_state.specs.declared.phase.Phase.TheVariants as phase
+use Rattle.ctl_state.specs.Admin.{image_of, with_images}
+use Rattle.ctl_state.specs.Controller.{ControllerState, PairState}
 use Rattle.manager.specs.declared.manager.MoveSet.{MoveSet}
 use Rattle.manager.specs.declared.manager.MovePhase.{MovePhase}
 use Rattle.manager.specs.declared.manager.MovePhase.TheVariants.{New, Begun, Stopped, Moved, GivenUp}

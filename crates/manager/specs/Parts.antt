@@ -4,9 +4,9 @@ use Rattle.adm_values.specs.declared.command.AdminCpl.{AdminCpl}
 use Rattle.adm_values.specs.declared.command.What.{What}
 use Rattle.adm_values.specs.declared.command.What.TheVariants.{SetState, GetState}
 use Rattle.ctl_state.specs.Parts.{image_size, kept}
-use Rattle.controller.specs.declared.controller.Phase.TheVariants as phase
-use Rattle.controller.specs.Admin.{AdminResult, Does, Resumes, Sets, completion_of, given, state_bytes}
-use Rattle.controller.specs.Pair.{ControllerState}
+use Rattle.ctl_state.specs.declared.phase.Phase.TheVariants as phase
+use Rattle.ctl_state.specs.Admin.{AdminResult, Does, Resumes, Sets, completion_of, given, state_bytes}
+use Rattle.ctl_state.specs.Controller.{ControllerState}
 use Rattle.manager.specs.declared.manager.MediumFault.{MediumFault}
 use Rattle.manager.specs.declared.side.Side.{Side}
 use Rattle.manager.specs.declared.side.Side.TheVariants.{From, To}

@@ -4,8 +4,8 @@ use Rattle.nvm_model.specs.Medium.{StayTold}
 use Rattle.adm_values.specs.declared.command.AdminCmd.{AdminCmd}
 use Rattle.adm_values.specs.declared.command.AdminCpl.{AdminCpl}
 use Rattle.adm_values.specs.Command.{IsCommand, command_bytes}
-use Rattle.controller.specs.Admin.{Answers, FitsBuffer}
-use Rattle.controller.specs.Pair.{ControllerState, PairState}
+use Rattle.ctl_state.specs.Admin.{Answers, FitsBuffer}
+use Rattle.ctl_state.specs.Controller.{ControllerState, PairState}
 use Rattle.manager.specs.declared.side.CopyAnswer.{CopyAnswer}
 use Rattle.manager.specs.declared.side.CopyAnswer.TheVariants.{Copied, Fault}
 use Rattle.manager.specs.declared.side.Side.{Side}

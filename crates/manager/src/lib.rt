@@ -16,6 +16,3 @@ pub use adm_values::{AdminCmd, AdminCpl, What};
 pub use manager::{Manager, MediumFault, MovePhase, MoveSet, Pause};
 pub use port::{Port, WorkPort};
 pub use side::{CopyAnswer, Side};
-
-#[cfg(test)]
-mod tests;

@@ -1,8 +1,8 @@
 // The parts of a cutover.
 ghost use Rattle.std.specs.Prelude.{◌≡◌, ◌+◌, ◌*◌, ◌^◌, ◌<◌, ◌≤◌, ◌∷◌, [], length, take};
 ghost use Rattle.adm_values.specs.Command.{IsInRange};
-ghost use Rattle.controller.specs.Admin.{HasLength, state_bytes};
-ghost use Rattle.controller.specs.declared.controller.Phase.TheVariants.{Running};
+ghost use Rattle.ctl_state.specs.Admin.{HasLength, state_bytes};
+ghost use Rattle.ctl_state.specs.declared.phase.Phase.TheVariants.{Running};
 ghost use Rattle.ctl_state.specs.Parts.{kept};
 ghost use Rattle.manager.specs.Asks.{state_asks};
 ghost use Rattle.manager.specs.Move.{IsQuiet};

@@ -8,8 +8,9 @@ use Rattle.nvm_model.specs.World.{Lane, new_lane}
 use Rattle.nvm_blocks.specs.Namespace.{NamespaceState}
 use Rattle.guest_ram.specs.Window.{WindowState}
 use Rattle.hall.specs.Plan.{PlanState, pieces_of}
-use Rattle.controller.specs.Pair.{ControllerState, IsSameButPair, PairState, no_pair, pair_of, IsPlanned, PlansLane}
-use Rattle.controller.proofs.PairLemmas.{other_pair, other_pieces}
+use Rattle.ctl_state.specs.Controller.{ControllerState, PairState, no_pair, pair_of}
+use Rattle.controller.specs.Pair.{IsSameButPair, IsPlanned, PlansLane}
+use Rattle.controller.proofs.PairLemmas.{burst_stays, other_pair, other_pieces}
 use Rattle.turns.specs.Parts.{SoFar, Leads}
 use Rattle.turns.proofs.PartLaws.{one_did}
 use Rattle.session.specs.declared.lane_run.LaneRun.{LaneRun}
@@ -52,7 +53,8 @@ pub record IsSameButLane (i k : ℕ) (old new : Seats) : Type 0 where
   pub number : k ≡ i + 1
   pub there : i < length old.runs
   pub runs_are : IsSameButRun i old.runs new.runs
-  pub pairs : IsSameButPair k old.controller new.controller
+  -- whatever became of the queue
+  pub pairs : IsSameButPair k old.controller (record new.controller { queue = old.controller.queue })
   pub windows : IsSameButWindow k old.windows new.windows
 
 -- a run was put in its place
@@ -96,21 +98,24 @@ fit_more {s = s} {i = i} {k} d same namespace this fit =
               (record { lane = same.windows.lane ∙ was.lane; size = same.windows.size ∙ was.size }) (λ m r p w first other is. is) fit.at.windows.each;
         };
         pairs = same.pairs.count ∙ fit.at.pairs;
-        burst = same.pairs.burst ∙ fit.at.burst;
+        burst = burst_stays same.pairs ∙ fit.at.burst;
       };
-      running = same.pairs.phase ∙ fit.running;
+      running = ap (λ (c : ControllerState). c.phase) same.pairs.rest ∙ fit.running;
     }
 
 -- what holds of a run that was put in its place
 pub put_here : (runs : List LaneRun) (i : ℕ) (run : LaneRun) (P : LaneRun → Type 0) → i < length runs → P run → (d : LaneRun) → P (get_or (set runs i run) i d)
 put_here runs i run P there holds d = subst P (sym (get_or-set_same runs i run d there)) holds
 
+queue_apart : {k : ℕ} {old new : ControllerState} → IsSameButPair k old new → IsSameButPair k old (record new { queue = old.queue })
+queue_apart {old = old} same = record { count = same.count; rest = ap (λ (c : ControllerState). record c { queue = old.queue }) same.rest; others = same.others }
+
 -- a run was put in its place, and its seat alone changed
 pub seat_put : {M : Type 0} {s : Script} {runs : List LaneRun} {old new : PlaceState M} (i k : ℕ) (run : LaneRun) → k ≡ i + 1 → i < s.head.lanes → IsRunOf s k run → IsSameButSeat k old new → Fit s runs old →
     IsSameButLane i k (seats runs old.controller old.windows) (seats (set runs i run) new.controller new.windows) × Fit s (set runs i run) new
 seat_put {M} {s} {runs} {old} {new} i k run at there is same fit =
     let inside : i < length runs = omega (arith, there, fit.own.count) in
-    let lane : IsSameButLane i k (seats runs old.controller old.windows) (seats (set runs i run) new.controller new.windows) = record { number = at; there = inside; runs_are = run_put i run; pairs = same.pairs; windows = same.windows } in
+    let lane : IsSameButLane i k (seats runs old.controller old.windows) (seats (set runs i run) new.controller new.windows) = record { number = at; there = inside; runs_are = run_put i run; pairs = queue_apart same.pairs; windows = same.windows } in
     (lane, fit_more run lane (subst (λ (n : NamespaceState M). IsNamespaceOf s.head n) (sym same.namespace) fit.at.namespace) (put_here runs i run (IsRunOf s k) inside is) fit)
 
 -- what holds of the run of lane k, where it stands

@@ -24,7 +24,8 @@ use Rattle.nvm_ring.specs.Stands.{TakesReaped}
 use Rattle.nvm_ring.proofs.QueueLemmas.{cq_stands}
 use Rattle.guest_ram.specs.Window.{WindowState}
 use Rattle.lanes.specs.Guest.{GuestState, Reaped, Reaps, lane_after}
-use Rattle.controller.specs.Pair.{AtLane, ControllerState, Fetches, PairState, Posts, RingsCq, fetch_line, outcomes_of, pair_of, post_line, worked, IsSameButPair}
+use Rattle.ctl_state.specs.Controller.{ControllerState, PairState, pair_of}
+use Rattle.controller.specs.Pair.{AtLane, Fetches, Posts, RingsCq, fetch_line, outcomes_of, post_line, worked, IsSameButPair}
 use Rattle.controller.specs.Pair.{Stands as ControllerStands}
 use Rattle.turns.specs.Parts.{ActsSome, ReapsSome, Leads}
 use Rattle.lanes.proofs.KeptLemmas.{fetches_keep, known_ends, posts_keep, same_ends}

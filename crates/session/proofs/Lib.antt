@@ -8,6 +8,7 @@ pub mod OpenLemmas
 pub mod PortLemmas
 pub mod RestLemmas
 pub mod SeatLemmas
+pub mod ServedLemmas
 pub mod ShelvesLemmas
 pub mod StageLemmas
 pub mod TurnLemmas

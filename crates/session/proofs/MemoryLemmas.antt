@@ -9,7 +9,7 @@ use Rattle.nvm_model.specs.declared.script.Script.{Script}
 use Rattle.nvm_model.specs.declared.script.LaneSet.{LaneSet}
 use Rattle.nvm_model.specs.ScriptText.{IsHead, IsScript}
 use Rattle.nvm_model.specs.World.{Lane, new_lane, window_pages}
-use Rattle.controller.specs.Pair.{ControllerState}
+use Rattle.ctl_state.specs.Controller.{ControllerState}
 use Rattle.nvm_model.specs.Run.{memory_of}
 use Rattle.session.specs.declared.lane_run.LaneRun.{LaneRun}
 use Rattle.session.specs.Lanes.{HaveWindows, IsWindowOf}

@@ -14,9 +14,9 @@ use Rattle.turns.proofs.ScriptLaws.{few_pages, set_fits, some_pages}
 use Rattle.guest_ram.specs.Ram.{all_pages}
 use Rattle.nvm_blocks.specs.Namespace.{block_count}
 use Rattle.ctl_state.specs.Image.{IsPair}
-use Rattle.controller.specs.declared.controller.Phase.TheVariants as phase
-use Rattle.controller.specs.Admin.{image_of}
-use Rattle.controller.specs.Pair.{ControllerState, no_pair}
+use Rattle.ctl_state.specs.declared.phase.Phase.TheVariants as phase
+use Rattle.ctl_state.specs.Admin.{image_of}
+use Rattle.ctl_state.specs.Controller.{ControllerState, no_pair}
 use Rattle.manager.specs.declared.manager.MediumFault.{MediumFault}
 use Rattle.manager.specs.declared.manager.MovePhase.TheVariants.{Begun}
 use Rattle.manager.specs.declared.manager.MoveSet.{MoveSet}

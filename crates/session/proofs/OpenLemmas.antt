@@ -6,9 +6,10 @@ use Rattle.nvm_model.specs.declared.script.LaneSet.{LaneSet}
 use Rattle.nvm_model.specs.declared.script.Script.{Script}
 use Rattle.nvm_model.specs.ScriptText.{IsScript, IsTurn, IsSet}
 use Rattle.nvm_model.specs.World.{set_of, Lane, new_lane}
-use Rattle.controller.specs.declared.controller.Phase.{Phase}
-use Rattle.controller.specs.declared.controller.Phase.TheVariants.{Loading, Running}
-use Rattle.controller.specs.Pair.{ControllerState, IsMade, PairState, new_pair, no_pair, pair_of, outcomes_of, worked}
+use Rattle.ctl_state.specs.declared.phase.Phase.{Phase}
+use Rattle.ctl_state.specs.declared.phase.Phase.TheVariants.{Loading, Running}
+use Rattle.ctl_state.specs.Controller.{ControllerState, PairState, no_pair, pair_of}
+use Rattle.controller.specs.Pair.{IsMade, new_pair, outcomes_of, worked}
 use Rattle.nvm_model.specs.Run.{Here, start_lanes}
 use Rattle.session.specs.Opened.{IsNewPlace, Opens, memory_made}
 use Rattle.session.specs.Place.{AreQuiet, AreRunsOf, IsPlaceOf, IsWaiting, PlaceState, StandsFor, StandsOn}

@@ -8,7 +8,8 @@ use Rattle.nvm_model.proofs.PlaceLemmas.{places_between-mods}
 use Rattle.guest_ram.specs.Window.{WindowState}
 use Rattle.mig_base.proofs.ListLemmas.{element_at, empty_list}
 use Rattle.nvm_ring.proofs.QueueLemmas.{last_told, told_few}
-use Rattle.controller.specs.Pair.{ControllerState, PairState, outcomes_of, pair_of, worked}
+use Rattle.ctl_state.specs.Controller.{ControllerState, PairState, pair_of}
+use Rattle.controller.specs.Pair.{outcomes_of, worked}
 use Rattle.turns.specs.Frame.{AreAtRest, AreServed, IsAtRest, total_left, work_left}
 use Rattle.nvm_model.specs.Run.{among}
 use Rattle.turns.proofs.PartLaws.{at_rest_from, first_of, later_of, served_from}

@@ -8,9 +8,10 @@ use Rattle.nvm_blocks.specs.Namespace.{HasAppliedIn, NamespaceState}
 use Rattle.nvm_blocks.specs.Work.{IsSameButData}
 use Rattle.guest_ram.specs.Window.{WindowState, data_pages, no_window}
 use Rattle.controller.specs.Changes.{Notes}
-use Rattle.controller.specs.Pair.{ControllerState, PairState, IsSameButPair}
+use Rattle.ctl_state.specs.Controller.{ControllerState, PairState}
+use Rattle.controller.specs.Pair.{IsSameButPair}
 use Rattle.session.specs.Lanes.{window_of, Stands, HaveWindows, IsWindowOf}
-use Rattle.session.specs.Seats.{DoesPieceAt, IsSameButWindow, HasSeat, IsSameButSeat}
+use Rattle.session.specs.Seats.{DoesPieceAt, HasSeat, IsSameButSeat, IsSameButSeats, IsSameButWindow}
 use Rattle.nvm_model.specs.declared.script.Script.{Script}
 use Rattle.nvm_model.specs.declared.line.Line.{Line}
 use Rattle.nvm_model.specs.World.{Lane}
@@ -76,3 +77,10 @@ piece_done {M} {I} {state} {moves} {piece} {result} {old} {new} {ram} w v is the
       windows = ap (λ (u : WindowState). set ram (piece.lane - 1) u) (sym back);
       noted = noted;
     }
+
+-- one seat more of a place changed
+pub seats_more : {M : Type 0} {k : ℕ} {a b c : PlaceState M} → IsSameButSeats a b → IsSameButSeat k b c → IsSameButSeats a c
+seats_more {c = c} x y = record {
+  namespace = y.namespace ∙ x.namespace;
+  controller = y.pairs.rest ∙ ap (λ (d : ControllerState). record d { pairs = c.controller.pairs }) x.controller;
+}

@@ -10,9 +10,10 @@ use Rattle.nvm_model.specs.History.{Complete}
 use Rattle.nvm_model.specs.Medium.{IsAt, MediumState}
 use Rattle.nvm_model.specs.Text.{text_of}
 use Rattle.nvm_model.specs.World.{Lane}
-use Rattle.controller.specs.Pair.{ControllerState, PairState, no_pair, outcomes_of, pair_of, worked}
-use Rattle.controller.specs.Admin.{image_of, with_rings}
-use Rattle.controller.proofs.AdminLemmas.{length-with_images}
+use Rattle.ctl_state.specs.Controller.{ControllerState, PairState, no_pair, pair_of}
+use Rattle.controller.specs.Pair.{outcomes_of, worked}
+use Rattle.ctl_state.specs.Admin.{image_of, with_rings}
+use Rattle.ctl_state.proofs.AdminLemmas.{length-with_images}
 use Rattle.ctl_state.specs.declared.image.PairState.{PairState as PairImage}
 use Rattle.manager.specs.Move.{ManagerState, gone_on_with}
 use Rattle.nvm_model.specs.declared.command.Command.{Command}
@@ -37,12 +38,13 @@ use Rattle.nvm_model.specs.Told.{serial}
 use Rattle.session.specs.Place.{IsPlaceOf, AreQuiet, DoesTurn, IsReady, IsWaiting, PlaceState, StandsFor, StandsOn, machine, pages_of}
 use Rattle.session.specs.Sides.{Goes, IsMoveDue, IsOnward, IsRunning, SessionState, Sides, at_side, by_side, machine_of, sides}
 use Rattle.session.proofs.MemoryLemmas.{whole_memory}
+use Rattle.session.proofs.ServedLemmas.{served_more, served_none}
 use Rattle.session.proofs.ShelvesLemmas.{same_namespace}
 use Rattle.session.proofs.AllLanesLemmas.{all_lanes, quiet_at}
 use Rattle.session.proofs.RestLemmas.{complete_is, done_is}
 use Rattle.turns.proofs.CopyLaws.{calls_along}
 use Rattle.manager.proofs.StateLemmas.{rings_at}
-use Rattle.controller.specs.declared.controller.Phase.TheVariants.{Running as Started}
+use Rattle.ctl_state.specs.declared.phase.Phase.TheVariants.{Running as Started}
 
 -- What code did as stages of a run, whatever run it stood for.
 
@@ -55,12 +57,16 @@ goes_more a b t stands =
     let second = b first.end first.stands in
     record { end = second.end; went = went_more first.went second.went; stands = second.stands }
 
-pub onward_more : {M : Type 0} {old mid new : SessionState} {at to : PlaceState M} → IsOnward old mid at → IsOnward mid new to → IsOnward old new to
+pub onward_none : {M I : Type 0} {state : M → MediumState I} {moves : I → Step → Bool → I → Type 0} {s : SessionState} {at : PlaceState M} → IsRunning s at → IsOnward state moves s at s at
+onward_none running = record { script = refl; side = refl; ahead = (λ none. none, λ none. none); manager = refl; served = served_none (record { namespace = refl; controller = refl }); running = running }
+
+pub onward_more : {M I : Type 0} {state : M → MediumState I} {moves : I → Step → Bool → I → Type 0} {old mid new : SessionState} {old_at at to : PlaceState M} → IsOnward state moves old old_at mid at → IsOnward state moves mid at new to → IsOnward state moves old old_at new to
 onward_more a b = record {
   script = b.script ∙ a.script;
   side = b.side ∙ a.side;
   ahead = (λ none. b.ahead.0 (a.ahead.0 none), λ none. a.ahead.1 (b.ahead.1 none));
   manager = b.manager ∙ a.manager;
+  served = served_more a.served b.served;
   running = b.running;
 }
 

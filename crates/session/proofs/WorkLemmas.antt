@@ -21,7 +21,8 @@ use Rattle.nvm_blocks.specs.Work.{IsSameButData}
 use Rattle.guest_ram.specs.Window.{WindowState, data_pages}
 use Rattle.hall.specs.Plan.{PlanState, pieces_of}
 use Rattle.lanes.specs.Guest.{GuestState}
-use Rattle.controller.specs.Pair.{ControllerState, PairState, lane_pieces, outcomes_of, pair_of, worked, IsSameButPair, IsPlanned}
+use Rattle.ctl_state.specs.Controller.{ControllerState, PairState, pair_of}
+use Rattle.controller.specs.Pair.{lane_pieces, outcomes_of, worked, IsSameButPair, IsPlanned}
 use Rattle.turns.proofs.NextPieceLaws.{lanes_finished}
 use Rattle.nvm_model.specs.Run.{Here, IsPiece, MayBeNext, NoneLeft, piece_line}
 use Rattle.session.specs.declared.lane_run.LaneRun.{LaneRun}
@@ -36,6 +37,7 @@ use Rattle.session.proofs.ShelvesLemmas.{same_namespace}
 use Rattle.controller.proofs.NextLemmas.{IsNext, lane_length, left_worked, next_fits, order_stays, window_stays, worked_length}
 use Rattle.controller.specs.Told.{called, piece_event}
 use Rattle.controller.proofs.DoneLemmas.{piece_does}
+use Rattle.controller.proofs.PairLemmas.{pair_same}
 use Rattle.mig_base.proofs.ListLemmas.{element_at, sum_few}
 use Rattle.session.proofs.AllLanesLemmas.{IsSameButLane, at_place, fit_more, stands_more, seats}
 use Rattle.session.proofs.SeatLemmas.{other_windows}
@@ -183,7 +185,7 @@ piece_same {old = old} {new} {piece} at number there low does has = record {
   number = number;
   there = there;
   runs_are = has.same;
-  pairs = subst (λ (c : ControllerState). IsSameButPair piece.lane old.controller c) (sym does.noted.others) (record { count = refl; burst = refl; phase = refl; others = λ i other. refl });
+  pairs = subst (λ (c : ControllerState). IsSameButPair piece.lane old.controller (record c { queue = old.controller.queue })) (sym does.noted.others) (pair_same old.controller);
   windows = subst (λ (ws : List WindowState). IsSameButWindow piece.lane old.windows ws) (sym does.windows) (other_windows piece.lane (window_of new.windows piece.lane) (omega (arith, number, low)) does.kept.lane does.kept.count);
 }
 

@@ -9,8 +9,9 @@ use Rattle.nvm_model.specs.ScriptText.{IsHead}
 use Rattle.nvm_model.specs.World.{Lane, set_of}
 use Rattle.nvm_ring.specs.Queues.{HasEnds}
 use Rattle.guest_ram.specs.Window.{WindowState}
-use Rattle.controller.specs.declared.controller.Phase.TheVariants.{Running}
-use Rattle.controller.specs.Pair.{ControllerState, IsSameButPair, PairState, pair_of}
+use Rattle.ctl_state.specs.declared.phase.Phase.TheVariants.{Running}
+use Rattle.ctl_state.specs.Controller.{ControllerState, PairState, pair_of}
+use Rattle.controller.specs.Pair.{IsSameButPair}
 use Rattle.lanes.specs.Guest.{GuestState, lane_after}
 use Rattle.lanes.specs.Guest.{Stands as GuestStands}
 use Rattle.session.specs.declared.lane_run.LaneRun.{LaneRun}

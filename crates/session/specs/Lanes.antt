@@ -6,7 +6,8 @@ use Rattle.nvm_model.specs.Turn.{word_state}
 use Rattle.nvm_model.specs.World.{Lane, set_of, acts_of}
 use Rattle.guest_ram.specs.Window.{WindowState, no_window}
 use Rattle.hall.specs.Plan.{PlanState}
-use Rattle.controller.specs.Pair.{ControllerState, PairState, outcomes_of, pair_of, worked, IsPlanned}
+use Rattle.ctl_state.specs.Controller.{ControllerState, PairState, pair_of}
+use Rattle.controller.specs.Pair.{outcomes_of, worked, IsPlanned}
 use Rattle.session.specs.declared.lane_run.LaneRun.{LaneRun}
 use Rattle.session.specs.declared.lane_script.LaneScript.{LaneScript}
 use Rattle.session.specs.declared.order.Order.{Order}

@@ -6,6 +6,7 @@ pub mod Phases
 pub mod Place
 pub mod Port
 pub mod Seats
+pub mod Served
 pub mod Shelves
 pub mod Sides
 pub mod Work

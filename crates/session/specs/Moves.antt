@@ -6,9 +6,9 @@ use Rattle.nvm_model.specs.Medium.{IsAt, MediumState}
 use Rattle.nvm_model.specs.Run.{CopiesAll, CopiesUpTo, Copy, all_blocks, left_calls, taken_calls}
 use Rattle.nvm_model.specs.World.{window_pages}
 use Rattle.nvm_blocks.specs.Namespace.{media_of, SameShelves}
-use Rattle.controller.specs.declared.controller.Phase.TheVariants as phase
-use Rattle.controller.specs.Admin.{image_of}
-use Rattle.controller.specs.Pair.{ControllerState}
+use Rattle.ctl_state.specs.declared.phase.Phase.TheVariants as phase
+use Rattle.ctl_state.specs.Admin.{image_of}
+use Rattle.ctl_state.specs.Controller.{ControllerState}
 use Rattle.manager.specs.declared.manager.MediumFault.{MediumFault}
 use Rattle.manager.specs.declared.manager.Pause.{Pause}
 use Rattle.manager.specs.declared.manager.MovePhase.TheVariants.{Begun}

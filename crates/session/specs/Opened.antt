@@ -4,7 +4,7 @@ use Rattle.nvm_model.specs.declared.script.LaneSet.{LaneSet}
 use Rattle.guest_ram.specs.Ram.{windows_made}
 use Rattle.guest_ram.specs.Window.{WindowState}
 use Rattle.nvm_blocks.specs.Namespace.{media_of}
-use Rattle.controller.specs.declared.controller.Phase.{Phase}
+use Rattle.ctl_state.specs.declared.phase.Phase.{Phase}
 use Rattle.controller.specs.Pair.{IsMade}
 use Rattle.nvm_model.specs.Run.{SinkState, start_of}
 use Rattle.nvm_model.specs.Told.{serial}

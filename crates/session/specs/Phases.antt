@@ -8,7 +8,7 @@ use Rattle.nvm_model.specs.Medium.{MediumState}
 use Rattle.nvm_model.specs.ScriptText.{IsHead}
 use Rattle.nvm_blocks.specs.Namespace.{media_of}
 use Rattle.hall.specs.Plan.{PlanState, pieces_of}
-use Rattle.controller.specs.declared.controller.Phase.TheVariants.{Running}
+use Rattle.ctl_state.specs.declared.phase.Phase.TheVariants.{Running}
 use Rattle.nvm_model.specs.Run.{Here, IsPiece, PieceCalled, piece_line}
 use Rattle.session.specs.declared.lane_run.LaneRun.{LaneRun}
 use Rattle.session.specs.Lanes.{ArePlanned}

@@ -8,8 +8,8 @@ use Rattle.nvm_model.specs.declared.trace.Step.{Step}
 use Rattle.nvm_model.specs.Medium.{MediumState}
 use Rattle.guest_ram.specs.Window.{WindowState}
 use Rattle.nvm_blocks.specs.Namespace.{NamespaceState, media_of}
-use Rattle.controller.specs.declared.controller.Phase.TheVariants.{Running}
-use Rattle.controller.specs.Pair.{ControllerState, PairState, pair_of}
+use Rattle.ctl_state.specs.declared.phase.Phase.TheVariants.{Running}
+use Rattle.ctl_state.specs.Controller.{ControllerState, PairState, pair_of}
 use Rattle.nvm_model.specs.Run.{Here, IsTurn, TurnDone, turn_lines}
 use Rattle.nvm_model.specs.Told.{serial}
 use Rattle.session.specs.declared.lane_run.LaneRun.{LaneRun}

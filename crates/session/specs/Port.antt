@@ -9,8 +9,8 @@ use Rattle.nvm_blocks.specs.Namespace.{SameShelves, block_count, faults_of, medi
 use Rattle.adm_values.specs.declared.command.AdminCmd.{AdminCmd}
 use Rattle.adm_values.specs.declared.command.AdminCpl.{AdminCpl}
 use Rattle.adm_values.specs.Command.{command_bytes}
-use Rattle.controller.specs.Admin.{Answers}
-use Rattle.controller.specs.Pair.{ControllerState}
+use Rattle.ctl_state.specs.Admin.{Answers}
+use Rattle.ctl_state.specs.Controller.{ControllerState}
 use Rattle.manager.specs.declared.side.CopyAnswer.TheVariants.{Copied, Fault}
 use Rattle.manager.specs.declared.side.Side.TheVariants.{From, To}
 use Rattle.manager.specs.Port.{PortCall, PortState, SideState, with_controller, with_media_of}

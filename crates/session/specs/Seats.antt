@@ -11,9 +11,10 @@ use Rattle.nvm_model.specs.World.{Lane}
 use Rattle.nvm_blocks.specs.Namespace.{HasRoom, IsForNamespace, IsSameButEntries, SameShelves, block_count, media_of}
 use Rattle.nvm_blocks.specs.Work.{IsSameButData}
 use Rattle.guest_ram.specs.Window.{WindowState, data_pages, no_window}
-use Rattle.controller.specs.declared.controller.Phase.TheVariants.{Running}
+use Rattle.ctl_state.specs.declared.phase.Phase.TheVariants.{Running}
 use Rattle.controller.specs.Changes.{Notes}
-use Rattle.controller.specs.Pair.{IsSameButPair, pair_of}
+use Rattle.ctl_state.specs.Controller.{pair_of}
+use Rattle.controller.specs.Pair.{IsSameButPair}
 use Rattle.session.specs.declared.lane_run.LaneRun.{LaneRun}
 use Rattle.session.specs.Lanes.{IsRunOf, Stands, window_of}
 use Rattle.session.specs.Place.{IsPlaceOf, PlaceState}
@@ -62,6 +63,11 @@ pub record IsSameButSeat {M : Type 0} (k : ℕ) (old new : PlaceState M) : Type 
   pub namespace : new.namespace ≡ old.namespace
   pub pairs : IsSameButPair k old.controller new.controller
   pub windows : IsSameButWindow k old.windows new.windows
+
+-- a place where nothing but windows and the controller's pairs changed
+pub record IsSameButSeats {M : Type 0} (old new : PlaceState M) : Type 0 where
+  pub namespace : new.namespace ≡ old.namespace
+  pub controller : new.controller ≡ record old.controller { pairs = new.controller.pairs }
 
 -- A piece of a lane was done at a place: these calls were made of its media, and beside these its window's data pages
 -- alone may have changed, and the controller's queue, which has what the piece changed where changes are told.

@@ -25,6 +25,7 @@ use Rattle.manager.specs.declared.manager.MoveSet.{MoveSet}
 use Rattle.manager.specs.Move.{ManagerState, with_all}
 use Rattle.session.specs.Moves.{Both, HandsOver}
 use Rattle.session.specs.Place.{AreRunsOf, IsReady, IsWaiting, Machine, PlaceState, StandsOn, pages_of}
+use Rattle.session.specs.Served.{Served}
 
 -- What goes where the guests go: the script, the runs of its lanes, the order of pieces, and where the run is. A migration
 -- is due after so many turns, where one is asked for and wasn't begun; a manager does it.
@@ -91,11 +92,12 @@ pub record IsRunning {M : Type 0} (s : SessionState) (at : PlaceState M) : Type 
   pub ready : IsReady s.script (machine_of s at)
 
 -- a session went on by turns, and can do more
-pub record IsOnward {M : Type 0} (old : SessionState) (new : SessionState) (at : PlaceState M) : Type 0 where
+pub record IsOnward {M I : Type 0} (state : M → MediumState I) (moves : I → Step → Bool → I → Type 0) (old : SessionState) (old_at : PlaceState M) (new : SessionState) (at : PlaceState M) : Type 0 where
   pub script : new.script ≡ old.script
   pub side : new.side ≡ old.side
   pub ahead : (old.ahead ≡ None → new.ahead ≡ None) × (new.ahead ≡ None → old.ahead ≡ None)
   pub manager : new.manager ≡ old.manager
+  pub served : Served state moves old_at at
   pub running : IsRunning new at
 
 -- turns stop where a migration is due, or at the end

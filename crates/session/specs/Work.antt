@@ -5,7 +5,8 @@ use Rattle.nvm_model.specs.declared.script.Script.{Script}
 use Rattle.nvm_model.specs.World.{set_of}
 use Rattle.nvm_blocks.specs.Namespace.{Enters, NamespaceState}
 use Rattle.hall.specs.Plan.{PlanState, pieces_of}
-use Rattle.controller.specs.Pair.{IsFetched, PairState, lane_pieces, told_fetch}
+use Rattle.ctl_state.specs.Controller.{PairState}
+use Rattle.controller.specs.Pair.{IsFetched, lane_pieces, told_fetch}
 use Rattle.session.specs.declared.lane_run.LaneRun.{LaneRun}
 use Rattle.session.specs.declared.pieces.Due.{Due}
 

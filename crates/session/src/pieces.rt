@@ -17,6 +17,7 @@ ghost use Rattle.nvm_model.specs.Told.{serial};
 ghost use Rattle.session.specs.Place.{AreRunsOf, AreUndone, StandsOn, machine};
 ghost use Rattle.session.specs.Work.{AreLeft, HasDone, HasResultAt, due_piece};
 ghost use Rattle.session.specs.Seats.{DropsEntries};
+ghost use Rattle.session.specs.Served.{Served};
 
 use crate::{LaneRun, Order, Place};
 use hall::Plan;
@@ -58,6 +59,7 @@ pub(crate) fn do_pieces<M: Medium>(
         (StandsOn script.now (machine runs.new.items order.new place.new))
         h events.old.items events.new.items }
     ensures has { HasPlan script.now runs.new.items plan.now place.new × AreDone script.now runs.new.items plan.now }
+    ensures served { Served M.state M.moves place.old place.new }
     ensures mix { order.new.mix ≡ script.now.head.mix }
     ensures more { HasMore (4096 * script.now.head.lanes) events.old events.new }
 {
@@ -113,6 +115,7 @@ fn do_piece<M: Medium>(
     ensures done { HasDone due plan.now runs.old.items runs.new.items
         place.old.namespace place.new.namespace }
     ensures has { HasPlan script.now runs.new.items plan.now place.new }
+    ensures served { Served M.state M.moves place.old place.new }
     ensures more { (vec_len events.new ≡ vec_len events.old + 1)
         × (vec_capacity events.new ≡ vec_capacity events.old) }
 {

@@ -7,13 +7,15 @@ ghost use Rattle.nvm_model.specs.ScriptText.{IsAct};
 ghost use Rattle.nvm_model.specs.Turn.{ActsOn, InLanes, Plans, ReapsAll};
 ghost use Rattle.nvm_model.specs.World.{Lane, set_of};
 ghost use Rattle.hall.specs.Plan.{pieces_of};
-ghost use Rattle.controller.specs.Pair.{IsSameButPair, PlansLane, fetch_line, pair_of};
+ghost use Rattle.ctl_state.specs.Controller.{pair_of};
+ghost use Rattle.controller.specs.Pair.{IsSameButPair, PlansLane, fetch_line};
 ghost use Rattle.turns.specs.Parts.{ActsSome, Leads, ReapsSome};
 ghost use Rattle.session.specs.LaneParts.{DidAct, HasMore, HasOne, IsGuestStep, IsSeat};
 ghost use Rattle.session.specs.LaneParts.{MayFetch, StandBoth, StandsFree, seat_of};
 ghost use Rattle.session.specs.Lanes.{Stands};
 ghost use Rattle.session.specs.Phases.{FitPlan, HasPlan, MayPlanAll};
 ghost use Rattle.session.specs.Place.{AreUndone, StandsFor};
+ghost use Rattle.session.specs.Seats.{IsSameButSeats};
 
 use crate::{LaneRun, Place};
 use controller::Controller;
@@ -41,7 +43,7 @@ pub(crate) fn plan_all<M: Medium>(
         (StandsFor script.now runs.new.items place.new.controller place.new.windows)
         lanes events.old.items events.new.items }
     ensures has { HasPlan script.now runs.new.items plan.new place.new × AreUndone runs.new.items }
-    ensures namespace { place.new.namespace ≡ place.old.namespace }
+    ensures kept { IsSameButSeats place.old place.new }
     ensures more { HasMore (384 * script.now.head.lanes) events.old events.new }
 {
     for at in 0..usize::from(script.head.lanes) {

@@ -3,12 +3,14 @@ ghost use Rattle.std.specs.Prelude.{◌≡◌, ◌+◌, ◌*◌, ◌≤◌, ◌+
 ghost use Rattle.nvm_model.specs.ScriptText.{IsHead};
 ghost use Rattle.nvm_model.specs.Turn.{InLanes, PostsAll};
 ghost use Rattle.nvm_model.specs.World.{Lane};
-ghost use Rattle.controller.specs.Pair.{IsSameButPair, pair_of, post_line};
+ghost use Rattle.ctl_state.specs.Controller.{pair_of};
+ghost use Rattle.controller.specs.Pair.{IsSameButPair, post_line};
 ghost use Rattle.turns.specs.Parts.{Leads};
 ghost use Rattle.session.specs.LaneParts.{HasMore, IsFree, IsSeat, seat_of};
 ghost use Rattle.session.specs.Lanes.{Stands};
 ghost use Rattle.session.specs.Phases.{AreDone, Fit, HasPlan};
 ghost use Rattle.session.specs.Place.{AreQuiet, AreUndone, StandsFor};
+ghost use Rattle.session.specs.Seats.{IsSameButSeats};
 ghost use Rattle.session.specs.Work.{MayPost};
 
 use crate::{LaneRun, Place};
@@ -37,7 +39,7 @@ pub(crate) fn post_all<M: Medium>(
         lanes events.old.items events.new.items }
     ensures rests { Fit script.now runs.new.items place.new × AreQuiet place.new.controller.pairs
         × AreUndone runs.new.items }
-    ensures namespace { place.new.namespace ≡ place.old.namespace }
+    ensures kept { IsSameButSeats place.old place.new }
     ensures more { HasMore (64 * script.now.head.lanes) events.old events.new }
 {
     for at in 0..usize::from(script.head.lanes) {

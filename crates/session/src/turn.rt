@@ -4,6 +4,7 @@ ghost use Rattle.nvm_model.specs.Run.{Here};
 ghost use Rattle.session.specs.Lanes.{IsComplete};
 ghost use Rattle.session.specs.Phases.{HasRoom};
 ghost use Rattle.session.specs.Place.{DoesTurn, IsReady, StandsOn, machine, total_work};
+ghost use Rattle.session.specs.Served.{Served};
 
 use crate::pieces::{clear_shelves, do_pieces};
 use crate::plan::plan_all;
@@ -46,6 +47,7 @@ pub(crate) fn do_turn<M: Medium>(
         → StandsOn script.now (machine runs.old.items order.old place.old) h
         → DoesTurn M.state M.moves script.now h events.new.items (machine runs.new.items order.new place.new) }
     ensures ready { IsReady script.now (machine runs.new.items order.new place.new) }
+    ensures served { Served M.state M.moves place.old place.new }
     ensures less { total_work 1 runs.new.items place.new.controller
         < total_work 1 runs.old.items place.old.controller }
     ensures room { HasRoom script.now plan.new events.new }

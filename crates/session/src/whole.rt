@@ -1,7 +1,9 @@
 // A whole run on one thread.
 ghost use Rattle.std.specs.Prelude.{◌≡◌, is_err, IfOk, None};
 ghost use Rattle.nvm_model.specs.declared.run.RunPhase.TheVariants.{Over};
+ghost use Rattle.session.specs.Moves.{both};
 ghost use Rattle.session.specs.Place.{IsReady, IsWaiting, PlaceState};
+ghost use Rattle.session.specs.Served.{HasLeft, Served};
 ghost use Rattle.session.specs.Sides.{Goes, HasEnded, IsNewSession, IsRunning, by_side, machine_of, sides, sink};
 
 use crate::{Ending, Place, Session};
@@ -26,6 +28,7 @@ pub fn run<M: Medium, K: Sink>(
         (sides session.old from.old to.old (sink (K.bytes out.old) (K.faults out.old))) (is_err result)
         (by_side session.new from.new to.new (sink (K.bytes out.new) (K.faults out.new))) }
     ensures ended { IfOk result (λ ending. HasEnded ending session.new) }
+    ensures left { HasLeft session.new.side (both from.old to.old) (both from.new to.new) }
 {
     session.begin(from, out)?;
     if !session.turns(from, out)? {
@@ -50,7 +53,8 @@ fn finish<M: Medium, K: Sink>(
         (sides session.old at.old other (sink (K.bytes out.old) (K.faults out.old))) (is_err result)
         (sides session.new at.new other (sink (K.bytes out.new) (K.faults out.new))) }
     ensures ended { IfOk result (λ e. (e ≡ ending) × (session.new.phase ≡ Over)) }
-    ensures kept { (session.new.script ≡ session.old.script) × (session.new.side ≡ session.old.side) }
+    ensures kept { (session.new.script ≡ session.old.script) × (session.new.side ≡ session.old.side)
+        × Served M.state M.moves at.old at.new }
 {
     session.turns(at, out)?;
     session.end(at, ending, out)

@@ -9,6 +9,7 @@ ghost use Rattle.nvm_model.specs.Text.{text_of};
 ghost use Rattle.session.specs.declared.ending.Ending.TheVariants.{Done, GaveUp};
 ghost use Rattle.session.specs.Moves.{Tries, both};
 ghost use Rattle.session.specs.Place.{IsReady, IsWaiting, PlaceState, total_work};
+ghost use Rattle.session.specs.Served.{Leaves};
 ghost use Rattle.session.specs.Sides.{Goes, HasBegun, IsMoveDue, IsMoved, IsNewManager, IsNext, IsOnward, IsRunning};
 ghost use Rattle.session.specs.Sides.{IsStop, MayMove};
 ghost use Rattle.turns.specs.Ahead.{less_one};
@@ -49,7 +50,7 @@ impl Session {
         ensures went { (other : PlaceState M) → Goes M.state M.moves
             (sides self.old at.old other (sink (K.bytes out.old) (K.faults out.old))) (is_err result)
             (sides self.new at.new other (sink (K.bytes out.new) (K.faults out.new))) }
-        ensures onward { IsOnward self.old self.new at.new }
+        ensures onward { IsOnward M.state M.moves self.old at.old self.new at.new }
         ensures less { total_work 1 self.new.runs at.new.controller < total_work 1 self.old.runs at.old.controller }
     {
         do_turn(
@@ -74,7 +75,7 @@ impl Session {
         ensures went { (other : PlaceState M) → Goes M.state M.moves
             (sides self.old at.old other (sink (K.bytes out.old) (K.faults out.old))) (is_err result)
             (sides self.new at.new other (sink (K.bytes out.new) (K.faults out.new))) }
-        ensures onward { IsOnward self.old self.new at.new }
+        ensures onward { IsOnward M.state M.moves self.old at.old self.new at.new }
         ensures stops { IfOk result (λ due. IsStop due self.new) }
     {
         'turns: loop {
@@ -112,6 +113,7 @@ impl Session {
             (sides self.old at.old to.old (sink (K.bytes out.old) (K.faults out.old))) (is_err result)
             (by_side self.new at.new to.new (sink (K.bytes out.new) (K.faults out.new))) }
         ensures moved { IfOk result (λ ending. IsMoved ending (both at.old to.old) self.new (both at.new to.new)) }
+        ensures left { Leaves self.new.side (both at.old to.old) (both at.new to.new) }
         ensures begun { HasBegun self.old self.new }
     {
         self.suspend(at, out)?;

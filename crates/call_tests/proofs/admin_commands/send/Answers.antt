@@ -1,7 +1,7 @@
 use Rattle.std.proofs.Common.{List, ℕ, arith, length, subst, sym}
 use Rattle.adm_values.specs.declared.command.AdminCmd.{AdminCmd}
-use Rattle.controller.specs.Admin.{FitsBuffer}
-use Rattle.controller.proofs.AdminLemmas.{fits_buffer}
+use Rattle.ctl_state.specs.Admin.{FitsBuffer}
+use Rattle.ctl_state.proofs.AdminLemmas.{fits_buffer}
 use Rattle.call_tests.proofs.admin_commands.send.Goals as goal
 
 pub admin-answer-requires-clause-buffer : goal.admin-answer-requires-clause-buffer

@@ -1,7 +1,7 @@
 use Rattle.std.proofs.Common.{arith, subst, ◌∙◌, ap}
 use Rattle.ctl_state.specs.declared.image.PairState.{PairState as PairImage}
 use Rattle.ctl_state.specs.Image.{IsPair}
-use Rattle.controller.specs.Admin.{image_of}
+use Rattle.ctl_state.specs.Admin.{image_of}
 use Rattle.controller.proofs.AdminLemmas.{image_sound, image_step}
 use Rattle.controller.proofs.admin.image_of.Goals as goal
 

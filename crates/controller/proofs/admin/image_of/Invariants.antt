@@ -1,6 +1,6 @@
 use Rattle.std.proofs.Common.{◌≡◌, ◌-◌, ◌++◌, All, map, replicate, take}
 use Rattle.ctl_state.specs.Image.{IsPair, none}
-use Rattle.controller.specs.Admin.{image_of}
+use Rattle.ctl_state.specs.Admin.{image_of}
 use Rattle.controller.proofs.admin.image_of.Given as goal
 
 abbrev pub invariant-pairs : goal.invariant-pairs

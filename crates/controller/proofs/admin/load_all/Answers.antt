@@ -3,8 +3,8 @@ use Rattle.std.proofs.lemmas.List.{length-take-le}
 use Rattle.std.proofs.lemmas.List.Elements.{All-set}
 use Rattle.ctl_state.specs.declared.image.PairState.{PairState as PairImage}
 use Rattle.ctl_state.specs.Image.{none, pairs_of}
-use Rattle.controller.specs.Admin.{with_images, with_rings}
-use Rattle.controller.specs.Pair.{PairState}
+use Rattle.ctl_state.specs.Admin.{with_images, with_rings}
+use Rattle.ctl_state.specs.Controller.{PairState}
 use Rattle.controller.proofs.AdminLemmas.{load_step}
 use Rattle.controller.proofs.admin.load_all.Goals as goal
 

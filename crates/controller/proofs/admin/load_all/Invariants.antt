@@ -1,6 +1,6 @@
 use Rattle.std.proofs.Common.{◌≡◌, All, [], length, take}
 use Rattle.ctl_state.specs.Image.{pairs_of}
-use Rattle.controller.specs.Admin.{with_images}
+use Rattle.ctl_state.specs.Admin.{with_images}
 use Rattle.controller.proofs.admin.load_all.Given as goal
 
 abbrev pub invariant-pairs : goal.invariant-pairs

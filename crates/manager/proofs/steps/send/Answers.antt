@@ -4,7 +4,7 @@ use Rattle.adm_values.specs.declared.kind.AdminRefusal.{AdminRefusal}
 use Rattle.adm_values.specs.declared.kind.AdminRefusal.TheVariants.{BadOpcode, BadSelect, BadField}
 use Rattle.adm_values.specs.Command.{IsCommand, Reads, command_bytes}
 use Rattle.adm_values.proofs.CommandLemmas.{own_bytes, same_command}
-use Rattle.controller.proofs.AdminLemmas.{fits_buffer}
+use Rattle.ctl_state.proofs.AdminLemmas.{fits_buffer}
 use Rattle.manager.specs.Asks.{command}
 use Rattle.manager.specs.Port.PortCall.{Admin}
 use Rattle.manager.proofs.AskLemmas.{asked_call}

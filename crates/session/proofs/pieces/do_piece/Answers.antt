@@ -9,6 +9,7 @@ use Rattle.mig_base.proofs.ListLemmas.{element_at}
 use Rattle.session.specs.Work.{due_piece}
 use Rattle.turns.specs.Parts.{Leads}
 use Rattle.controller.proofs.PlannedLemmas.{pieces_fit}
+use Rattle.session.proofs.ServedLemmas.{served_piece}
 
 pub next_piece-piece-requires-clause-few : goal.next_piece-piece-requires-clause-few
 next_piece-piece-requires-clause-few g c =
@@ -45,6 +46,9 @@ pub returns-clause-has : goal.returns-clause-has
 returns-clause-has g c =
     let fits = piece_fits c.args.due.at c.requires.has c.requires.left c.next_piece-piece.ensures.piece in
     plan_after c.args.due.at fits.0 c.requires.left.there c.piece-done.ensures.done c.push_result.ensures c.requires.has
+
+pub returns-clause-served : goal.returns-clause-served
+returns-clause-served g c = served_piece c.piece-done.ensures.done
 
 pub returns-clause-done : goal.returns-clause-done
 returns-clause-done g c = record {

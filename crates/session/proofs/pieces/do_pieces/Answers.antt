@@ -11,11 +11,13 @@ use Rattle.session.specs.declared.order.Order.{Order}
 use Rattle.turns.specs.Parts.{Leads}
 use Rattle.session.specs.Phases.{DoesPieces}
 use Rattle.session.specs.Place.{StandsOn, machine}
+use Rattle.session.proofs.ServedLemmas.{served_more, served_none}
 
 pub pieces-init : goal.pieces-init
 pieces-init g c = record {
   works = λ h stands. leads_none h c.args.events.now.items stands (record { pieces = []; working = refl; lines_are = refl });
   has = c.requires.has.0;
+  served = served_none (record { namespace = refl; controller = refl });
   left = c.count_left.ensures;
   rooms = rooms_first c.count_left.new.left c.requires.has.0 c.requires.clear;
   tickets = omega arith;
@@ -61,6 +63,7 @@ pieces-preserved g c =
           let next : at + 1 ≡ next_lane s.head.mix y.drawn (map (left_in s.head.shelf) y.lanes) = drawn.0 ∙ ap (λ (k : ℕ). next_lane k y.drawn left) now.mix ∙ ap (λ (l : List ℕ). next_lane s.head.mix y.drawn l) (sym lefts) in
           works_on drawn.1 (c.do_piece.ensures.works y (record { lanes = stood.lanes; media = stood.media }) next));
       has = c.do_piece.ensures.has;
+      served = served_more now.served c.do_piece.ensures.served;
       left = left_less at done.result low there.1 done.has now.left;
       rooms = rooms_next at d none now.has now.left now.rooms low there.1 (done.entered d none);
       tickets = omega (arith, now.tickets, c.do_piece.ensures.more.0);

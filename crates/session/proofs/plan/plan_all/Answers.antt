@@ -1,8 +1,9 @@
 use Rattle.std.proofs.Common.{◌≡◌, ◌∙◌, ◌<◌, ◌-◌, [], refl, arith}
 use Rattle.mig_base.proofs.ListLemmas.{element_at}
-use Rattle.controller.specs.Pair.{pair_of}
+use Rattle.ctl_state.specs.Controller.{pair_of}
 use Rattle.session.specs.declared.lane_run.LaneRun.{LaneRun}
 use Rattle.turns.proofs.PartLaws.{none_yet, leads_none, all_led}
+use Rattle.session.proofs.SeatLemmas.{seats_more}
 use Rattle.session.proofs.AllLanesLemmas.{PlannedTo, all_lanes, quiet_at, led_more, more_more, planned_more, put_here, run_here, seat_at, seat_put}
 use Rattle.session.proofs.plan.plan_all.Goals as goal
 
@@ -16,7 +17,7 @@ loop-at-init g c = record {
     later = λ _. (quiet_at c.args.place.now.controller c.requires.may.quiet k, c.requires.may.empty (k - 1) [] (omega (arith, low, high, c.requires.may.fits.count)));
     undone = c.requires.may.undone (k - 1) d (omega (arith, low, high, c.requires.may.fit.own.count));
   };
-  namespace = refl;
+  kept = record { namespace = refl; controller = refl };
   more = record { fewer = omega arith; few = omega arith; capacity = refl };
 }
 
@@ -51,7 +52,7 @@ loop-at-preserved g c =
       fit = put.1;
       fits = record { count = did.planned.same.count ∙ was.fits.count; size = did.planned.same.size ∙ was.fits.size };
       each = planned_more put.0 did.planned (put_here c.loop-at.runs.items i run (λ (r : LaneRun). r.results.items ≡ []) put.0.there did.run.1) was.each;
-      namespace = did.seat.namespace ∙ was.namespace;
+      kept = seats_more was.kept did.seat;
       more = more_more (omega arith) was.more did.more;
     }
 

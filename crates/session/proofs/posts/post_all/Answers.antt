@@ -1,8 +1,9 @@
 use Rattle.std.proofs.Common.{◌≡◌, ◌∙◌, ◌<◌, ◌≤◌, ℕ, [], refl, arith}
 use Rattle.mig_base.proofs.ListLemmas.{element_at}
-use Rattle.controller.specs.Pair.{PairState, no_pair, pair_of}
+use Rattle.ctl_state.specs.Controller.{PairState, no_pair, pair_of}
 use Rattle.session.specs.declared.lane_run.LaneRun.{LaneRun}
 use Rattle.turns.proofs.PartLaws.{none_yet, leads_none, all_led}
+use Rattle.session.proofs.SeatLemmas.{seats_more}
 use Rattle.session.proofs.AllLanesLemmas.{PostedTo, all_lanes, led_more, more_more, posted_more, put_here, run_here, seat_at, seat_put}
 use Rattle.session.proofs.WorkLemmas.{may_post}
 use Rattle.session.proofs.posts.post_all.Goals as goal
@@ -12,7 +13,7 @@ loop-at-init g c = record {
   leads = λ lanes stands. leads_none lanes c.args.events.now.items stands (none_yet _ lanes);
   fit = c.requires.has.0.fit;
   each = λ k d low high. record { quiet = λ none. absurd (omega (arith, low, none)); later = λ _. may_post (c.requires.has.0.planned k low high) (c.requires.has.1 k d low high) };
-  namespace = refl;
+  kept = record { namespace = refl; controller = refl };
   more = record { fewer = omega arith; few = omega arith; capacity = refl };
 }
 
@@ -41,7 +42,7 @@ loop-at-preserved g c =
       leads = λ lanes stands. led_more c.loop-at.place c.post.new.self old_run run put.0 there stands.count c.index_mut.ensures.value (was.leads lanes stands) did.leads;
       fit = put.1;
       each = posted_more put.0 did.rests.2 (put_here c.loop-at.runs.items i run (λ (r : LaneRun). r.results.items ≡ []) put.0.there did.rests.1) was.each;
-      namespace = did.seat.namespace ∙ was.namespace;
+      kept = seats_more was.kept did.seat;
       more = more_more (omega arith) was.more did.more;
     }
 

@@ -4,7 +4,8 @@ use Rattle.nvm_model.specs.declared.line.Line.{Line}
 use Rattle.nvm_model.specs.declared.piece.PieceResult.{PieceResult}
 use Rattle.nvm_model.specs.Turn.{PostsAll}
 use Rattle.nvm_model.specs.World.{set_of}
-use Rattle.controller.specs.Pair.{outcomes_of, pair_of, post_line, worked}
+use Rattle.ctl_state.specs.Controller.{pair_of}
+use Rattle.controller.specs.Pair.{outcomes_of, post_line, worked}
 use Rattle.controller.proofs.StepLemmas.{posted_few, posts_kept}
 use Rattle.session.specs.Lanes.{Stands}
 use Rattle.session.proofs.LanePartLemmas.{posts_lane, run_set, stands_control}

@@ -10,6 +10,7 @@ use Rattle.nvm_model.specs.World.{Lane}
 use Rattle.nvm_blocks.specs.Namespace.{NamespaceState, media_of}
 use Rattle.session.proofs.EntryLemmas.{plan_cleared, plan_within}
 use Rattle.turns.specs.Parts.{Leads}
+use Rattle.session.proofs.ServedLemmas.{served_cleared, served_more, served_none}
 
 -- what the phases came to
 phases : (g : Over) → (c : goal.After-post_all g) → Phases g.M.Medium.state g.M.Medium.moves c.args.script.now (machine c.args.runs.now.items c.args.order.now c.args.place.now) (machine c.post_all.new.runs.items c.do_pieces.new.order c.post_all.new.place) c.post_all.new.events.items
@@ -24,14 +25,14 @@ phases g c =
       planned_events = c.plan_all.new.events.items;
       plan = λ lanes stands. subst (λ (es : List Line). planned c.clear_shelves.new.place es lanes) c.clear.ensures.items
           (subst (λ (place : PlaceState g.row.M.Denot). planned place c.clear.new.self.items lanes) (sym c.clear_shelves.ensures.kept.rest) (c.plan_all.ensures.leads lanes stands));
-      plan_kept = c.clear_shelves.ensures.kept.entries.media ∙ ap (λ (n : NamespaceState g.row.M.Denot). media_of n) c.plan_all.ensures.namespace;
+      plan_kept = c.clear_shelves.ensures.kept.entries.media ∙ ap (λ (n : NamespaceState g.row.M.Denot). media_of n) c.plan_all.ensures.kept.namespace;
       worked_runs = c.do_pieces.new.runs.items;
       worked_place = c.do_pieces.new.place;
       worked_events = c.do_pieces.new.events.items;
       works = c.do_pieces.ensures.works;
       finished = λ lanes stands. none_is_left c.do_pieces.ensures.has.0 c.do_pieces.ensures.has.1 stands;
       posts = c.post_all.ensures.leads;
-      posts_kept = c.post_all.ensures.namespace;
+      posts_kept = c.post_all.ensures.kept.namespace;
       fit = c.post_all.ensures.rests.0;
       quiet = c.post_all.ensures.rests.1;
       undone = c.post_all.ensures.rests.2;
@@ -49,6 +50,9 @@ returns-clause-turn g c = λ h stands. turn_by_phases (phases g c) h stands
 
 pub returns-clause-ready : goal.returns-clause-ready
 returns-clause-ready g c = ready_after (phases g c)
+
+pub returns-clause-served : goal.returns-clause-served
+returns-clause-served g c = served_more (served_more (served_none c.plan_all.ensures.kept) (served_cleared c.clear_shelves.ensures.kept)) (served_more c.do_pieces.ensures.served (served_none c.post_all.ensures.kept))
 
 pub returns-clause-less : goal.returns-clause-less
 returns-clause-less g c = less_after (phases g c)

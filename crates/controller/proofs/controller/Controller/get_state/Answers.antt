@@ -1,8 +1,8 @@
 use Rattle.std.proofs.Common.{◌≡◌, ◌∙◌, List, Ok, ap, length, map, subst, sym}
 use Rattle.ctl_state.specs.Image.{IsImage, pairs_of}
-use Rattle.controller.specs.declared.controller.Phase.{Phase}
-use Rattle.controller.specs.Admin.{Gets, image_of}
-use Rattle.controller.specs.Pair.{ControllerState, PairState}
+use Rattle.ctl_state.specs.declared.phase.Phase.{Phase}
+use Rattle.ctl_state.specs.Admin.{Gets, image_of}
+use Rattle.ctl_state.specs.Controller.{ControllerState, PairState}
 use Rattle.controller.proofs.AdminLemmas.{gets_part}
 use Rattle.controller.proofs.controller.Controller.get_state.Goals as goal
 

@@ -1,7 +1,8 @@
 use Rattle.std.proofs.Common.{◌≡◌, ◌≤◌, ◌∙◌, All, List, arith, length, subst, sym}
 use Rattle.ctl_state.specs.Image.{pairs_of}
-use Rattle.controller.specs.Pair.{PairState}
-use Rattle.controller.proofs.AdminLemmas.{length-with_images, room_kept}
+use Rattle.ctl_state.specs.Controller.{PairState}
+use Rattle.ctl_state.proofs.AdminLemmas.{length-with_images}
+use Rattle.controller.proofs.AdminLemmas.{room_kept}
 use Rattle.controller.proofs.controller.Controller.go_on.Goals as goal
 
 pub invariant_of-self : goal.invariant_of-self

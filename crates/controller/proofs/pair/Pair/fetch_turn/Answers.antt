@@ -5,7 +5,8 @@ use Rattle.nvm_model.specs.declared.command.Command.{Command}
 use Rattle.nvm_model.specs.Check.{checked_command}
 use Rattle.guest_ram.specs.Window.{data_pages}
 use Rattle.hall.specs.Plan.{PlanState, pieces_of}
-use Rattle.controller.specs.Pair.{FetchesTurn, PairState, lane_pieces}
+use Rattle.ctl_state.specs.Controller.{PairState}
+use Rattle.controller.specs.Pair.{FetchesTurn, lane_pieces}
 use Rattle.controller.specs.Parts.{IsPair}
 use Rattle.controller.proofs.PlanLemmas.{count_with}
 use Rattle.controller.proofs.StepLemmas.{fetched_count, fetched_more, fetches_turn, one_fetched}

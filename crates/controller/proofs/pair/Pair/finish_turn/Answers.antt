@@ -6,7 +6,8 @@ use Rattle.nvm_model.specs.declared.ring.RingState.{RingState}
 use Rattle.nvm_model.specs.Ring.{CqState}
 use Rattle.nvm_ring.specs.Moves.{with_phase}
 use Rattle.guest_ram.specs.Window.{WindowState}
-use Rattle.controller.specs.Pair.{PairState, PostSteps, after_pieces, ended, next_completion, outcomes_of, told_fetch, told_post}
+use Rattle.ctl_state.specs.Controller.{PairState}
+use Rattle.controller.specs.Pair.{PostSteps, after_pieces, ended, next_completion, outcomes_of, told_fetch, told_post}
 use Rattle.controller.specs.Parts.{HasPosted, IsPair, joined}
 use Rattle.controller.proofs.StepLemmas.{ended_next, one_posted, posted_all}
 use Rattle.controller.proofs.LaneLemmas.{posts_lead}

@@ -1,6 +1,6 @@
 use Rattle.std.proofs.Common.{arith, subst}
 use Rattle.nvm_ring.specs.Stands.{TakesReaped}
-use Rattle.controller.specs.Pair.{PairState}
+use Rattle.ctl_state.specs.Controller.{PairState}
 use Rattle.controller.proofs.StepLemmas.{rung_size}
 use Rattle.controller.proofs.pair.Pair.ring_cq.Goals as goal
 

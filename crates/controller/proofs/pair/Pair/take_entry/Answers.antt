@@ -3,7 +3,8 @@ use Rattle.nvm_values.specs.Sqe.{sqe_of}
 use Rattle.nvm_model.specs.declared.ring.RingState.{RingState}
 use Rattle.nvm_model.specs.Ring.{cell}
 use Rattle.nvm_ring.specs.Moves.{after_fetch}
-use Rattle.controller.specs.Pair.{MayFetch, PairState, next_entry}
+use Rattle.ctl_state.specs.Controller.{PairState}
+use Rattle.controller.specs.Pair.{MayFetch, next_entry}
 use Rattle.controller.proofs.pair.Pair.take_entry.Goals as goal
 
 pub returns : goal.returns

@@ -1,12 +1,20 @@
-use Rattle.std.proofs.Common.{◌∙◌, sym, subst, ap}
+use Rattle.std.proofs.Common.{◌∙◌, refl, sym, subst, ap}
 use Rattle.nvm_model.specs.declared.run.RunPhase.TheVariants.{Running}
 use Rattle.nvm_model.specs.Run.{opposite}
 use Rattle.session.specs.declared.ending.Ending.{Ending}
 use Rattle.session.specs.Moves.{both}
 use Rattle.session.specs.Place.{IsReady, IsWaiting}
+use Rattle.nvm_model.specs.declared.run.Side.{Side}
+use Rattle.session.specs.Served.{Leaves}
 use Rattle.session.specs.Sides.{IsMoved, SessionState, machine_of}
 use Rattle.session.proofs.StageLemmas.{goes_more, if_ok, on_destination, on_source, resumed, stayed}
+use Rattle.session.proofs.ServedLemmas.{stayed_leaves}
 use Rattle.session.proofs.session.Session.move_to.Goals as goal
+
+pub returns-in_err-suspend-clause-left : goal.returns-in_err-suspend-clause-left
+returns-in_err-suspend-clause-left g c =
+    let side = ap (λ (s : SessionState). s.side) c.in_err-suspend.ensures.session ∙ c.requires.source in
+    subst (λ (now : Side). Leaves now (both c.args.at.now c.args.to.now) (both c.args.at.now c.args.to.now)) (sym side) (refl, refl, refl)
 
 pub returns-in-Ok : goal.returns-in-Ok
 returns-in-Ok g c =
@@ -19,6 +27,7 @@ returns-in-Ok g c =
     record {
       went = (on_destination side).0 (goes_more (c.in_ok-suspend.ensures.went c.args.to.now) to.0);
       moved = if_ok c.resume.result (λ ending done. subst (λ (e : Ending). IsMoved e (both c.args.at.now c.args.to.now) c.resume.new.self (both c.cut_over.new.at c.cut_over.new.to)) (sym done) (side, to.1, c.in-Ok.ensures.tried.0.controllers)) c.resume.ensures.done;
+      left = subst (λ (now : Side). Leaves now (both c.args.at.now c.args.to.now) (both c.cut_over.new.at c.cut_over.new.to)) (sym side) c.in-Ok.ensures.tried.0.controllers;
       begun = record { script = ap (λ (s : SessionState). s.script) is ∙ ap (λ (s : SessionState). s.script) suspended; ahead = ap (λ (s : SessionState). s.ahead) is ∙ ap (λ (s : SessionState). s.ahead) suspended };
     }
 
@@ -32,5 +41,6 @@ returns-in-Err g c =
     record {
       went = (on_source side).0 (goes_more (c.in_ok-suspend.ensures.went c.args.to.now) to.0);
       moved = if_ok c.stay.result (λ ending done. subst (λ (e : Ending). IsMoved e (both c.args.at.now c.args.to.now) c.stay.new.self (both c.cut_over.new.at c.cut_over.new.to)) (sym done) (side, to.1, c.in-Err.ensures.tried.controllers)) c.stay.ensures.gave_up;
+      left = subst (λ (now : Side). Leaves now (both c.args.at.now c.args.to.now) (both c.cut_over.new.at c.cut_over.new.to)) (sym side) (stayed_leaves c.requires.running.ready.running c.in-Err.ensures.tried);
       begun = record { script = ap (λ (s : SessionState). s.script) is ∙ ap (λ (s : SessionState). s.script) suspended; ahead = ap (λ (s : SessionState). s.ahead) is ∙ ap (λ (s : SessionState). s.ahead) suspended };
     }

@@ -9,7 +9,7 @@ invariant-turns g l =
     record {
       went : (other : PlaceState g.row.M.Denot) → Goes g.M.Medium.state g.M.Medium.moves
           (sides l.fn.self l.fn.at other (sink (out.bytes l.fn.out) (out.faults l.fn.out))) false (sides l.self l.at other (sink (out.bytes l.out) (out.faults l.out)));
-      onward : IsOnward l.fn.self l.self l.at;
+      onward : IsOnward g.M.Medium.state g.M.Medium.moves l.fn.self l.fn.at l.self l.at;
     }
 
 abbrev pub decreases-turns : goal.decreases-turns

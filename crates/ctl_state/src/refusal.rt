@@ -1,14 +1,14 @@
 // Why an admin command was refused.
 ghost use Rattle.std.specs.Prelude.{◌≡◌, ◌≤◌, Err};
-ghost use Rattle.controller.specs.Admin.{completion_of, refusal_of, unread};
+ghost use Rattle.ctl_state.specs.Admin.{completion_of, refusal_of, unread};
 
+use crate::parts::PartRefusal;
 use adm_values::{AdminCpl, AdminRefusal};
-use ctl_state::PartRefusal;
 use nvm_values::Status;
 
 /// The cause of a refusal, each with its status: of type 1, Command Specific, but for the last two.
 #[derive(Clone, Copy)]
-pub(crate) enum Refusal {
+pub enum Refusal {
     /// c0: the controller is suspended, or takes a state.
     IsSuspended,
     /// c1: it isn't suspended.
@@ -29,7 +29,7 @@ pub(crate) enum Refusal {
 
 impl Refusal {
     /// Why a part of an image was refused.
-    pub(crate) fn of_part(refusal: PartRefusal) -> Refusal
+    pub fn of_part(refusal: PartRefusal) -> Refusal
         ensures { result ≡ refusal_of refusal }
     {
         match refusal {
@@ -40,7 +40,7 @@ impl Refusal {
     }
 
     /// Why bytes that are no command were.
-    pub(crate) fn of_bytes(refusal: AdminRefusal) -> Refusal
+    pub fn of_bytes(refusal: AdminRefusal) -> Refusal
         ensures { result ≡ unread refusal }
     {
         match refusal {
@@ -50,7 +50,7 @@ impl Refusal {
     }
 
     /// The completion that tells it.
-    pub(crate) fn completion(self) -> AdminCpl
+    pub fn completion(self) -> AdminCpl
         ensures { result ≡ completion_of (Err self) }
     {
         match self {

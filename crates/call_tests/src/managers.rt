@@ -1,12 +1,15 @@
+//! A move of a manager over a port of its own, with two real controllers.
 ghost use Rattle.std.specs.Prelude.{◌≡◌, All, [], IfOk, Some, length, true};
 ghost use Rattle.adm_values.specs.Command.{IsCommand, command_bytes};
-ghost use Rattle.controller.specs.Admin.{Answers, FitsBuffer};
+ghost use Rattle.ctl_state.specs.Admin.{Answers, FitsBuffer};
 ghost use Rattle.manager.specs.Move.{Fits, MayCutOver, with_all};
 ghost use Rattle.manager.specs.declared.manager.MovePhase.TheVariants.{Begun};
 
-use super::*;
 use controller::{Controller, PairSet, Phase};
 use guest_ram::Ram;
+use manager::{
+    AdminCmd, AdminCpl, CopyAnswer, Manager, MediumFault, MoveSet, Pause, Port, Side, WorkPort,
+};
 use mig_base::OutOfMemory;
 use std::alloc::Global;
 

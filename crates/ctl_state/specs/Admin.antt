@@ -15,11 +15,11 @@ use Rattle.ctl_state.specs.Image.{header, pairs_bytes, pairs_of}
 use Rattle.ctl_state.specs.Parts.{Feeds, IsWhole, image_size}
 use Rattle.data_queue.specs.Log.{IsLog}
 use Rattle.nvm_values.specs.Status.{success}
-use Rattle.controller.specs.declared.controller.Phase.{Phase}
-use Rattle.controller.specs.declared.controller.Phase.TheVariants.{Running, Suspended, Loading}
-use Rattle.controller.specs.declared.refusal.Refusal.{Refusal}
-use Rattle.controller.specs.declared.refusal.Refusal.TheVariants.{IsSuspended, NotSuspended, BadDataQueue, DataQueueFull, BadImage, BadSequence, InvalidField, InvalidOpcode}
-use Rattle.controller.specs.Pair.{ControllerState, PairState}
+use Rattle.ctl_state.specs.declared.phase.Phase.{Phase}
+use Rattle.ctl_state.specs.declared.phase.Phase.TheVariants.{Running, Suspended, Loading}
+use Rattle.ctl_state.specs.declared.refusal.Refusal.{Refusal}
+use Rattle.ctl_state.specs.declared.refusal.Refusal.TheVariants.{IsSuspended, NotSuspended, BadDataQueue, DataQueueFull, BadImage, BadSequence, InvalidField, InvalidOpcode}
+use Rattle.ctl_state.specs.Controller.{ControllerState, PairState}
 
 -- What admin commands do to a controller, phase by phase. (Base 2.1, Migration Send, Migration Receive, Controller Data
 -- Queue and Track Send commands.)

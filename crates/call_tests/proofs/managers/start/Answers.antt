@@ -1,10 +1,11 @@
 use Rattle.std.proofs.Common.{◌≡◌, All, [], ◌∷◌, length, refl, sym, ap, ◌∙◌, arith}
 use Rattle.std.proofs.lemmas.List.Elements.{All-cons, All-nil}
-use Rattle.controller.specs.declared.controller.Phase.{Phase}
-use Rattle.controller.specs.Pair.{ControllerState, IsMade, PairState}
+use Rattle.ctl_state.specs.declared.phase.Phase.{Phase}
+use Rattle.ctl_state.specs.Controller.{ControllerState, PairState}
+use Rattle.controller.specs.Pair.{IsMade}
 use Rattle.manager.specs.Move.{HasImage}
 use Rattle.manager.proofs.MoveLemmas.{has_image}
-use Rattle.manager.proofs.tests.start.Goals as goal
+use Rattle.call_tests.proofs.managers.start.Goals as goal
 
 one_pair : (c : ControllerState) (phase : Phase) → IsMade phase (record { sq = 2; cq = 2; pages = 1 } ∷ []) 2 1 c → HasImage c
 one_pair c phase made = has_image c (rw made.pairs (omega arith)) (rw made.pairs (λ i there.
