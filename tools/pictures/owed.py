@@ -1,0 +1,93 @@
+"""The upper part of a picture: the blocks and the pages that a migration owes after each of its rounds."""
+from . import svg
+from .frame import LEFT, RIGHT, steps
+
+MOST_NUMBERS = 24
+
+
+class Bar:
+    """What a column shows: the most that is owed after one of its rounds, and whether that rose, or copying began anew."""
+
+    def __init__(self):
+        self.value, self.rose, self.restarts = 0, False, 0
+
+
+def bars_of(run, frame, field, start):
+    """The bars by column. `field` is owed or pages; `start` is what is owed at first, None where that isn't known."""
+    bars, before = {}, start
+    for one in run.rounds:
+        value = getattr(one, field)
+        bar = bars.setdefault(frame.column_of[one.turn], Bar())
+        bar.value = max(bar.value, value)
+        bar.rose |= before is not None and value >= before and value > 0
+        bar.restarts += one.restarted
+        before = value
+    return bars
+
+
+def values_axis(top, height, most, name):
+    """The axis on the left with its grid."""
+    step = steps(most, max(1, height // 40))
+    parts = [svg.text(12, top + 12, name, "head")]
+    for value in range(0, most + 1, step):
+        y = top + height - height * value / most
+        parts += [svg.line(LEFT, y, RIGHT, y, "grid"), svg.text(LEFT - 6, y + 4, svg.grouped(value), "small muted", "end")]
+    return parts
+
+
+def numbers(frame, bars, top, height, most):
+    """The values over the bars: all, where there is room, and else the highest and the last."""
+    chosen = sorted(bars)
+    widest = max(svg.width_of(svg.grouped(bar.value), 11) for bar in bars.values())
+    if len(bars) > MOST_NUMBERS or frame.column(chosen[0])[1] < widest + 2:
+        last = chosen[-1]
+        highest = max(chosen, key=lambda index: (bars[index].value, -index))
+        chosen = [highest, last] if frame.column(last)[0] - frame.column(highest)[0] > 2 * widest else [last]
+    parts = []
+    for index in chosen:
+        x, width = frame.column(index)
+        y = top + height - height * bars[index].value / most - 4
+        parts.append(svg.text(x + width / 2, y, svg.grouped(bars[index].value), "small", "middle"))
+    return parts
+
+
+def threshold(top, height, most, small):
+    """The line at which the guests are suspended, where a script says it and it can be told from the base."""
+    if small is None or not 0 < small < most:
+        return []
+    y = top + height - height * small / most
+    return [
+        svg.line(LEFT, y, RIGHT, y, "mark"),
+        svg.text(RIGHT, y - 4, f"suspended at {svg.grouped(small)} or fewer", "small muted", "end"),
+    ]
+
+
+def panel(run, frame, top, height, field, start, small):
+    """A panel over the rounds, as lines of SVG."""
+    bars = bars_of(run, frame, field, start)
+    most = max([bar.value for bar in bars.values()] + [start or 0, 1])
+    parts = [svg.rect(LEFT, top, RIGHT - LEFT, height, "panel")]
+    parts += values_axis(top, height, most, "blocks" if field == "owed" else "pages")
+    shapes = {"fell": [], "rose": [], "pages": []}
+    marks = []
+    for index, bar in sorted(bars.items()):
+        x, width = frame.column(index)
+        tall = height * bar.value / most
+        style = "rose" if bar.rose else "fell" if field == "owed" else "pages"
+        shapes[style].append(svg.box(x, top + height - tall, max(width - 1, 1), tall))
+        if bar.restarts and field == "owed":
+            marks.append(svg.diamond(x + width / 2, top - 7, 9))
+    parts += [svg.path(shape, style) for style, shape in shapes.items()]
+    parts += threshold(top, height, most, small) + [svg.path(marks, "again")]
+    return parts + (numbers(frame, bars, top, height, most) if bars and most > 1 else [])
+
+
+def legend(run, frame):
+    """What the panels' signs mean."""
+    found = list(bars_of(run, frame, "owed", None).values()) + list(bars_of(run, frame, "pages", None).values())
+    items = [("fell", "blocks"), ("pages", "pages")]
+    if any(bar.rose for bar in found):
+        items.append(("rose", "as much as before or more: writes came as fast as the copying, or faster"))
+    if any(one.restarted for one in run.rounds):
+        items.append(("again", "restart: a change was lost, and copying began anew"))
+    return items

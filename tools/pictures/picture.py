@@ -1,0 +1,224 @@
+"""A run as an SVG picture: heading, ribbon of where the guests are, owed blocks and pages, and the lanes."""
+from html import escape
+
+from . import lanes, owed, svg
+from .frame import LEFT, RIGHT, WIDTH, Frame, steps
+from .style import sheet
+
+OWED_TALL = 120
+PAGES_TALL = 46
+ROW = 17
+
+
+def title_of(run):
+    """What the run was, in a few words."""
+    count = len(run.rounds)
+    if run.migrated is None:
+        return "A run without a migration"
+    if run.ending is None:
+        return f"A migration that is still under way, after {svg.counted(count, 'round')}"
+    if run.ending[0] == "give up":
+        return f"A migration that was given up after {svg.counted(count, 'round')}"
+    if not count:
+        return "A migration in one step, without rounds"
+    restarts = sum(one.restarted for one in run.rounds)
+    return f"A migration in {svg.counted(count, 'round')}" + (f" with {svg.counted(restarts, 'restart')}" if restarts else "")
+
+
+def summary_of(run):
+    """Sentences on what was done."""
+    commands = [command for lane in run.lanes.values() for command in lane.commands]
+    failed = sum(command.failed for command in commands)
+    words = [
+        f"{svg.counted(len(run.lanes), 'lane')} and {svg.counted(len(commands), 'command')} in {svg.counted(run.turns, 'turn')}; "
+        + (f"{svg.grouped(failed)} failed." if failed else "none failed.")
+    ]
+    if run.pause:
+        blocks, pages = (svg.counted(*pair) for pair in zip(run.pause, ("block", "page")))
+        words.append(f"{blocks} and {pages} were copied while the guests stood still.")
+    if run.ending and run.ending[0] == "give up":
+        words.append("The guests went on at the source.")
+    return " ".join(words)
+
+
+def notes_of(run, frame, single):
+    """What the picture leaves out or can't know, a sentence each, and whether it is a warning."""
+    notes = []
+    if run.cut is not None:
+        notes.append((f"Cut: the transcript ends behind line {svg.grouped(run.cut)}, without 'end'. It is drawn up to there.", True))
+    if frame.group > 1:
+        notes.append((
+            f"Thinned: a column stands for {frame.group} turns. It shows all their commands, and the most that was owed and"
+            " the most pieces in one of them.", False
+        ))
+    if not single:
+        notes.append(("Thinned: commands are too many for bars from fetch to post; they are stacked where they were fetched.", False))
+    if run.script is None:
+        notes.append(("No script stands in front: opcodes are as far as the lines tell them, and turns as far as their order does.", False))
+    return notes
+
+
+def legend(items, y):
+    """Signs with words, in rows; answers the lines of SVG and the y below them."""
+    parts, x = [], LEFT
+    for sign, words in items:
+        wide = 18 + svg.width_of(words, 11) + 14
+        if x + wide > WIDTH and x > LEFT:
+            x, y = LEFT, y + ROW
+        if sign == "cross":
+            parts.append(svg.path([svg.cross(x + 6, y - 4, 8)], "bad"))
+        elif sign == "again":
+            parts.append(svg.path([svg.diamond(x + 6, y - 4, 9)], "again"))
+        else:
+            parts.append(svg.rect(x, y - 9, 12, 10, sign))
+        parts.append(svg.text(x + 18, y, words, "small"))
+        x += wide
+    return parts, y
+
+
+def phases(run, frame):
+    """The ribbon's parts: left and right edge, class, and words from long to short."""
+    end = frame.start(frame.turns + 1)
+    if run.migrated is None:
+        return [(LEFT, end, "source", ["guests at the source"])]
+    moved = frame.end(run.migrated) if run.migrated != run.suspended else frame.pause()
+    stop = frame.pause() if run.suspended is not None else frame.end(run.ending[1]) if run.ending else end
+    found = [
+        (LEFT, moved, "source", ["guests at the source", "source"]),
+        (moved, stop, "moving", ["guests at the source, rounds of copying", "rounds of copying", "rounds"]),
+    ]
+    if run.suspended is not None:
+        found.append((stop, stop + frame.gap, "paused", []))
+    if run.ending:
+        there = run.ending[0] == "resume to"
+        words = ["guests at the destination", "destination"] if there else ["guests at the source again", "source again", "source"]
+        found.append((stop + frame.gap, end, "there" if there else "source", words))
+    return [part for part in found if part[1] - part[0] > 0.05]
+
+
+def ribbon(run, frame, y):
+    """Where the guests are."""
+    parts = [svg.text(12, y + 14, "guests", "head")]
+    for left, right, style, choices in phases(run, frame):
+        parts.append(svg.rect(left, y, right - left, 20, style))
+        words = next((words for words in choices if svg.width_of(words, 11) + 6 < right - left), None)
+        if words:
+            parts.append(svg.text((left + right) / 2, y + 14, words, "small", "middle"))
+    return parts
+
+
+def marks(run, frame):
+    """The lines of the migration that stand between turns: their place and their words."""
+    if run.migrated is None:
+        return []
+    at = frame.pause() if run.migrated == run.suspended else frame.end(run.migrated)
+    found = []
+    if run.suspended is None:
+        found = [(at, "migrate")]
+        if run.ending:
+            found.append((frame.end(run.ending[1]), "give up: a copy failed"))
+        return found
+    words = "suspend"
+    if run.pause:
+        words += f", pause {svg.grouped(run.pause[0])} {svg.grouped(run.pause[1])}"
+    if run.ending:
+        words += f", {run.ending[0]}"
+    if run.migrated == run.suspended:
+        return [(at, f"migrate, {words}")]
+    return [(at, "migrate"), (frame.pause() + frame.gap / 2, words)]
+
+
+def marked(found, y, foot):
+    """Lines from the words of marks down to the foot; words that would meet others stand in a row of their own."""
+    parts, ends = [], []
+    for x, words in found:
+        wide = svg.width_of(words, 11)
+        left = max(4, min(x - wide / 2, WIDTH - 8 - wide))
+        row = next((row for row, end in enumerate(ends) if end < left), len(ends))
+        ends[row : row + 1] = [left + wide + 10]
+        here = y - row * ROW
+        parts += [svg.line(x, here + 3, x, foot, "mark"), svg.text(left + wide / 2, here, words, "small", "middle")]
+    return parts
+
+
+def turns_axis(frame, top, foot):
+    """The axis of turns, with its grid."""
+    step = max(steps(frame.turns, 24), steps(frame.turns, max(1, int((RIGHT - LEFT) // 44))))
+    grid, parts = [], []
+    for turn in range(1, frame.turns + 1):
+        if turn % step == 0 or step == 1 or turn == 1:
+            x = frame.start(turn) + frame.turn_width / 2
+            grid.append(svg.line(x, top, x, foot + 4, "grid"))
+            parts.append(svg.text(x, foot + 18, svg.grouped(turn), "small muted", "middle"))
+    parts.append(svg.text((LEFT + RIGHT) / 2, foot + 36, "turn (all are equally wide; within one, its events from left to right)", "muted", "middle"))
+    return grid, parts
+
+
+def owed_part(run, frame, y):
+    """The panels of what is owed; lines of SVG, and the y below them."""
+    start = small = few = None
+    if run.script:
+        start, small, few = (run.script.sizes.get(word) for word in ("blocks", "small", "pages"))
+    parts, y = heading("Owed after each round", owed.legend(run, frame), y)
+    y += 18
+    parts += owed.panel(run, frame, y, OWED_TALL, "owed", start, small)
+    y += OWED_TALL + 16
+    parts += owed.panel(run, frame, y, PAGES_TALL, "pages", None, few)
+    return parts, y + PAGES_TALL
+
+
+def heading(words, items, y):
+    """A part's heading with its legend below."""
+    parts, y_below = legend(items, y + 18)
+    return [svg.text(LEFT, y, words, "head"), *parts], y_below
+
+
+def lanes_part(run, frame, y, single):
+    """The bands of all lanes: lines of SVG, boxes, and the y below them."""
+    words = "Commands from fetch to post" if single else "Commands"
+    parts, y = heading(words, lanes.legend(run, single), y)
+    y += 8
+    boxes, most = [], lanes.most_of(run, frame)
+    for number in sorted(run.lanes):
+        band, found, y = lanes.band(run, frame, number, y, single, most)
+        parts, boxes, y = parts + band, boxes + found, y + 8
+    return parts, boxes, y - 8
+
+
+def draw(run):
+    """The picture of a run as the text of an SVG file, and its boxes."""
+    frame = Frame(run)
+    single = lanes.is_drawn_singly(run, frame)
+    title, summary = title_of(run), summary_of(run)
+    notes = notes_of(run, frame, single)
+    front = [svg.text(12, 30, title, "title"), svg.text(12, 52, summary, "muted")]
+    y = 52
+    for words, is_warning in notes:
+        y += ROW
+        front.append(svg.text(12, y, words, "small warning" if is_warning else "small muted"))
+    found = marks(run, frame)
+    y += 20 + (2 * ROW if found else 0)
+    top = y
+    body = []
+    if run.migrated is not None and run.rounds:
+        parts, y = owed_part(run, frame, y + 20 + 26)
+        body += parts
+    else:
+        y += 20
+    parts, boxes, foot = lanes_part(run, frame, y + 28, single)
+    body += parts
+    grid, axis = turns_axis(frame, top + 20, foot)
+    ends = [svg.line(frame.start(frame.turns + 1), top, frame.start(frame.turns + 1), foot, "cut")] if run.cut is not None else []
+    body = ribbon(run, frame, top) + body + marked(found, top - 6, foot) + ends + axis
+    height = foot + 48
+    lines = [
+        f'<svg xmlns="http://www.w3.org/2000/svg" viewBox="0 0 {WIDTH} {svg.number(height)}" role="img"'
+        f' width="{WIDTH}" height="{svg.number(height)}">',
+        f"<title>{escape(title)}</title>",
+        f"<desc>{escape(' '.join([summary, *(words for words, _ in notes)]))}</desc>",
+        sheet(),
+        svg.rect(0, 0, WIDTH, height, "ground"),
+        *front, *grid, *body,
+        "</svg>",
+    ]
+    return "\n".join(line for line in lines if line) + "\n", boxes
