@@ -1,6 +1,8 @@
 """Where a turn lies on a picture: turns are equally wide, and a pause has a place of its own between two of them."""
 import math
 
+from . import svg
+
 WIDTH = 1000
 LEFT = 112
 RIGHT = 984
@@ -47,6 +49,33 @@ class Frame:
         """The place of a line in its turn, in equal steps from the turn's first event to its last."""
         first, last = self.run.spans[turn - 1]
         return self.start(turn) + self.turn_width * (line - first + 0.5) / (last - first + 1)
+
+    def ticks(self):
+        """The turns that have a number on the axis."""
+        step = max(steps(self.turns, 24), steps(self.turns, (RIGHT - LEFT) // 44))
+        return [turn for turn in range(1, self.turns + 1) if turn == 1 or turn % step == 0]
+
+    def middle(self, turn):
+        """The middle of a turn."""
+        return self.start(turn) + self.turn_width / 2
+
+    def bounds(self):
+        """The places of the lines of a migration that stand between turns, without those of a pause."""
+        run = self.run
+        moved = [] if run.migrated is None or run.migrated == run.suspended else [self.end(run.migrated)]
+        stopped = [self.end(run.ending[1])] if run.ending and run.suspended is None else []
+        return moved + stopped
+
+    def ground(self, top, height):
+        """What lies behind a panel: its ground, the turns, and the migration's beginning, pause and end."""
+        parts = [svg.rect(LEFT, top, RIGHT - LEFT, height, "panel")]
+        parts += [svg.line(self.middle(turn), top, self.middle(turn), top + height, "grid") for turn in self.ticks()]
+        parts += [svg.line(x, top, x, top + height, "mark") for x in self.bounds()]
+        if self.gap:
+            parts.append(svg.rect(self.pause(), top, self.gap, height, "stand"))
+        if self.run.cut is not None:
+            parts.append(svg.line(RIGHT, top, RIGHT, top + height, "cut"))
+        return parts
 
     def turn_of(self, line):
         """The turn of a line behind a fetch; the last one where the run was cut before it."""

@@ -117,7 +117,7 @@ def pieces(frame, lane, top, most):
         tall = PIECES * count / most
         shape.append(svg.box(x, top + PIECES - tall, max(width - 0.6, 1), tall))
     base = svg.line(LEFT, top + PIECES, RIGHT, top + PIECES, "axis")
-    return [svg.path(shape, "pieces"), base, svg.text(LEFT - 6, top + 9, svg.grouped(most), "small muted", "end")]
+    return [svg.path(shape, "pieces"), base, svg.text(LEFT - 6, top + 9, svg.counted(most, "piece"), "small muted", "end")]
 
 
 def band(run, frame, number, top, single, most):
@@ -129,7 +129,7 @@ def band(run, frame, number, top, single, most):
         parts, boxes, height = stacks(frame, lane, top + 4, most[0])
     height = max(LEAST_BAND, height + 6)
     failed = sum(command.failed for command in lane.commands)
-    parts = [svg.rect(LEFT, top, RIGHT - LEFT, height + PIECES + 2, "panel"), *parts]
+    parts = [*frame.ground(top, height + PIECES + 2), *parts]
     parts += pieces(frame, lane, top + height + 2, most[1])
     parts += [
         svg.text(12, top + 14, f"lane {number}", "head"),

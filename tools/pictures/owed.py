@@ -3,6 +3,7 @@ from . import svg
 from .frame import LEFT, RIGHT, steps
 
 MOST_NUMBERS = 24
+HEADROOM = 26
 
 
 class Bar:
@@ -13,7 +14,7 @@ class Bar:
 
 
 def bars_of(run, frame, field, start):
-    """The bars by column. `field` is owed or pages; `start` is what is owed at first, None where that isn't known."""
+    """The bars by column. `field` is blocks or pages; `start` is what is owed at first, None where that isn't known."""
     bars, before = {}, start
     for one in run.rounds:
         value = getattr(one, field)
@@ -27,7 +28,7 @@ def bars_of(run, frame, field, start):
 
 def values_axis(top, height, most, name):
     """The axis on the left with its grid."""
-    step = steps(most, max(1, height // 40))
+    step = steps(most, max(1, height // 30))
     parts = [svg.text(12, top + 12, name, "head")]
     for value in range(0, most + 1, step):
         y = top + height - height * value / most
@@ -51,43 +52,39 @@ def numbers(frame, bars, top, height, most):
     return parts
 
 
-def threshold(top, height, most, small):
-    """The line at which the guests are suspended, where a script says it and it can be told from the base."""
-    if small is None or not 0 < small < most:
-        return []
-    y = top + height - height * small / most
-    return [
-        svg.line(LEFT, y, RIGHT, y, "mark"),
-        svg.text(RIGHT, y - 4, f"suspended at {svg.grouped(small)} or fewer", "small muted", "end"),
-    ]
-
-
 def panel(run, frame, top, height, field, start, small):
     """A panel over the rounds, as lines of SVG."""
     bars = bars_of(run, frame, field, start)
     most = max([bar.value for bar in bars.values()] + [start or 0, 1])
-    parts = [svg.rect(LEFT, top, RIGHT - LEFT, height, "panel")]
-    parts += values_axis(top, height, most, "blocks" if field == "owed" else "pages")
+    parts = frame.ground(top - HEADROOM, height + HEADROOM)
+    if not any(bar.value for bar in bars.values()):
+        return [svg.text(12, top + 12, field, "head"), svg.text(LEFT + 8, top + 12, f"no {field} after any round", "small muted")]
+    parts += values_axis(top, height, most, field)
     shapes = {"fell": [], "rose": [], "pages": []}
     marks = []
     for index, bar in sorted(bars.items()):
         x, width = frame.column(index)
         tall = height * bar.value / most
-        style = "rose" if bar.rose else "fell" if field == "owed" else "pages"
+        style = "rose" if bar.rose else "fell" if field == "blocks" else "pages"
         shapes[style].append(svg.box(x, top + height - tall, max(width - 1, 1), tall))
-        if bar.restarts and field == "owed":
-            marks.append(svg.diamond(x + width / 2, top - 7, 9))
+        if bar.restarts and field == "blocks":
+            marks.append(svg.diamond(x + width / 2, top - HEADROOM + 7, 10))
     parts += [svg.path(shape, style) for style, shape in shapes.items()]
-    parts += threshold(top, height, most, small) + [svg.path(marks, "again")]
-    return parts + (numbers(frame, bars, top, height, most) if bars and most > 1 else [])
+    if small is not None and 0 < small < most:
+        y = top + height - height * small / most
+        parts.append(svg.line(LEFT, y, RIGHT, y, "limit"))
+    return parts + [svg.path(marks, "again")] + numbers(frame, bars, top, height, most)
 
 
 def legend(run, frame):
     """What the panels' signs mean."""
-    found = list(bars_of(run, frame, "owed", None).values()) + list(bars_of(run, frame, "pages", None).values())
-    items = [("fell", "blocks"), ("pages", "pages")]
+    found = list(bars_of(run, frame, "blocks", None).values()) + list(bars_of(run, frame, "pages", None).values())
+    items = [("fell", "blocks"), ("pages", "pages")] if any(one.pages for one in run.rounds) else [("fell", "blocks")]
     if any(bar.rose for bar in found):
         items.append(("rose", "as much as before or more: writes came as fast as the copying, or faster"))
     if any(one.restarted for one in run.rounds):
         items.append(("again", "restart: a change was lost, and copying began anew"))
+    if run.script and "small" in run.script.sizes and "pages" in run.script.sizes:
+        blocks, pages = (svg.counted(run.script.sizes[word], one) for word, one in (("small", "block"), ("pages", "page")))
+        items.append(("limit", f"the guests are suspended at {blocks} and {pages} or fewer"))
     return items

@@ -2,7 +2,7 @@
 from html import escape
 
 from . import lanes, owed, svg
-from .frame import LEFT, RIGHT, WIDTH, Frame, steps
+from .frame import LEFT, RIGHT, WIDTH, Frame
 from .style import sheet
 
 OWED_TALL = 120
@@ -36,8 +36,8 @@ def summary_of(run):
     if run.pause:
         blocks, pages = (svg.counted(*pair) for pair in zip(run.pause, ("block", "page")))
         words.append(f"{blocks} and {pages} were copied while the guests stood still.")
-    if run.ending and run.ending[0] == "give up":
-        words.append("The guests went on at the source.")
+    if run.ending:
+        words.append(f"The guests went on at the {'source' if run.ending[0] == 'give up' else 'destination'}.")
     return " ".join(words)
 
 
@@ -69,6 +69,8 @@ def legend(items, y):
             parts.append(svg.path([svg.cross(x + 6, y - 4, 8)], "bad"))
         elif sign == "again":
             parts.append(svg.path([svg.diamond(x + 6, y - 4, 9)], "again"))
+        elif sign == "limit":
+            parts.append(svg.line(x, y - 4, x + 14, y - 4, "limit"))
         else:
             parts.append(svg.rect(x, y - 9, 12, 10, sign))
         parts.append(svg.text(x + 18, y, words, "small"))
@@ -111,25 +113,23 @@ def marks(run, frame):
     """The lines of the migration that stand between turns: their place and their words."""
     if run.migrated is None:
         return []
-    at = frame.pause() if run.migrated == run.suspended else frame.end(run.migrated)
-    found = []
-    if run.suspended is None:
-        found = [(at, "migrate")]
-        if run.ending:
-            found.append((frame.end(run.ending[1]), "give up: a copy failed"))
-        return found
-    words = "suspend"
-    if run.pause:
-        words += f", pause {svg.grouped(run.pause[0])} {svg.grouped(run.pause[1])}"
+    words = []
+    if run.suspended is not None:
+        words = ["suspend"]
+        if run.pause:
+            words.append(" and ".join(svg.counted(*pair) for pair in zip(run.pause, ("block", "page"))) + " copied")
     if run.ending:
-        words += f", {run.ending[0]}"
+        words.append(run.ending[0] + ("" if run.ending[0] == "resume to" else ": a call of a medium failed"))
+    at = frame.bounds()
+    if run.suspended is not None:
+        at.append(frame.pause() + frame.gap / 2)
     if run.migrated == run.suspended:
-        return [(at, f"migrate, {words}")]
-    return [(at, "migrate"), (frame.pause() + frame.gap / 2, words)]
+        return [(at[0], ", ".join(["migrate", *words]))]
+    return [(at[0], "migrate")] + ([(at[1], ", ".join(words))] if words else [])
 
 
-def marked(found, y, foot):
-    """Lines from the words of marks down to the foot; words that would meet others stand in a row of their own."""
+def marked(found, y):
+    """The words of marks over their places in the ribbon; words that would meet others stand in a row of their own."""
     parts, ends = [], []
     for x, words in found:
         wide = svg.width_of(words, 11)
@@ -137,34 +137,26 @@ def marked(found, y, foot):
         row = next((row for row, end in enumerate(ends) if end < left), len(ends))
         ends[row : row + 1] = [left + wide + 10]
         here = y - row * ROW
-        parts += [svg.line(x, here + 3, x, foot, "mark"), svg.text(left + wide / 2, here, words, "small", "middle")]
+        parts += [svg.line(x, here + 3, x, y + 26, "mark"), svg.text(left + wide / 2, here, words, "small", "middle")]
     return parts
 
 
-def turns_axis(frame, top, foot):
-    """The axis of turns, with its grid."""
-    step = max(steps(frame.turns, 24), steps(frame.turns, max(1, int((RIGHT - LEFT) // 44))))
-    grid, parts = [], []
-    for turn in range(1, frame.turns + 1):
-        if turn % step == 0 or step == 1 or turn == 1:
-            x = frame.start(turn) + frame.turn_width / 2
-            grid.append(svg.line(x, top, x, foot + 4, "grid"))
-            parts.append(svg.text(x, foot + 18, svg.grouped(turn), "small muted", "middle"))
-    parts.append(svg.text((LEFT + RIGHT) / 2, foot + 36, "turn (all are equally wide; within one, its events from left to right)", "muted", "middle"))
-    return grid, parts
+def turns_axis(frame, y):
+    """The axis of turns."""
+    parts = [svg.text(frame.middle(turn), y + 18, svg.grouped(turn), "small muted", "middle") for turn in frame.ticks()]
+    words = "turn (all are equally wide; within one, its events from left to right)"
+    return [*parts, svg.text((LEFT + RIGHT) / 2, y + 36, words, "muted", "middle")]
 
 
 def owed_part(run, frame, y):
     """The panels of what is owed; lines of SVG, and the y below them."""
-    start = small = few = None
-    if run.script:
-        start, small, few = (run.script.sizes.get(word) for word in ("blocks", "small", "pages"))
+    sizes = run.script.sizes if run.script else {}
     parts, y = heading("Owed after each round", owed.legend(run, frame), y)
-    y += 18
-    parts += owed.panel(run, frame, y, OWED_TALL, "owed", start, small)
-    y += OWED_TALL + 16
-    parts += owed.panel(run, frame, y, PAGES_TALL, "pages", None, few)
-    return parts, y + PAGES_TALL
+    y += 8 + owed.HEADROOM
+    parts += owed.panel(run, frame, y, OWED_TALL, "blocks", sizes.get("blocks"), sizes.get("small"))
+    y += OWED_TALL + 8 + owed.HEADROOM
+    parts += owed.panel(run, frame, y, PAGES_TALL, "pages", None, sizes.get("pages"))
+    return parts, y + (PAGES_TALL if any(one.pages for one in run.rounds) else 12)
 
 
 def heading(words, items, y):
@@ -197,19 +189,13 @@ def draw(run):
         y += ROW
         front.append(svg.text(12, y, words, "small warning" if is_warning else "small muted"))
     found = marks(run, frame)
-    y += 20 + (2 * ROW if found else 0)
-    top = y
-    body = []
-    if run.migrated is not None and run.rounds:
-        parts, y = owed_part(run, frame, y + 20 + 26)
+    top = y + 20 + (2 * ROW if found else 0)
+    body, y = ribbon(run, frame, top) + marked(found, top - 6), top + 20
+    if run.rounds:
+        parts, y = owed_part(run, frame, y + 26)
         body += parts
-    else:
-        y += 20
     parts, boxes, foot = lanes_part(run, frame, y + 28, single)
-    body += parts
-    grid, axis = turns_axis(frame, top + 20, foot)
-    ends = [svg.line(frame.start(frame.turns + 1), top, frame.start(frame.turns + 1), foot, "cut")] if run.cut is not None else []
-    body = ribbon(run, frame, top) + body + marked(found, top - 6, foot) + ends + axis
+    body += parts + turns_axis(frame, foot)
     height = foot + 48
     lines = [
         f'<svg xmlns="http://www.w3.org/2000/svg" viewBox="0 0 {WIDTH} {svg.number(height)}" role="img"'
@@ -218,7 +204,7 @@ def draw(run):
         f"<desc>{escape(' '.join([summary, *(words for words, _ in notes)]))}</desc>",
         sheet(),
         svg.rect(0, 0, WIDTH, height, "ground"),
-        *front, *grid, *body,
+        *front, *body,
         "</svg>",
     ]
     return "\n".join(line for line in lines if line) + "\n", boxes

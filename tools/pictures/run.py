@@ -33,10 +33,10 @@ class Command:
 
 
 class Round:
-    """A round: its turn, what is owed after it, whether copying began anew, and whether more is owed than before it."""
+    """A round: its turn, the blocks and pages that are owed after it, and whether copying began anew."""
 
-    def __init__(self, turn, owed, pages, restarted):
-        self.turn, self.owed, self.pages, self.restarted = turn, owed, pages, restarted
+    def __init__(self, turn, blocks, pages, restarted):
+        self.turn, self.blocks, self.pages, self.restarted = turn, blocks, pages, restarted
 
 
 class Lane:

@@ -31,6 +31,8 @@ COLOURS = [
     ("axis", "stroke", "#8b949e", "#6b7681"),
     ("mark", "stroke", "#4a525a", "#b8c1ca"),
     ("cut", "stroke", "#d55e00", "#ff7f3f"),
+    ("limit", "stroke", "#1c2128", "#e8ecf0"),
+    ("stand", "fill", "#f6d5bf", "#5a2c12"),
     ("bad", "stroke", "#d55e00", "#ff7f3f"),
 ]
 INK = ("#1c2128", "#e8ecf0")
@@ -46,6 +48,7 @@ text.letter{font-size:11px;font-weight:600}
 .mark{stroke-dasharray:4 3}
 .cut{stroke-width:2;stroke-dasharray:3 3}
 .bad{stroke-width:1.8}
+.limit{fill:none;stroke-width:1.5;stroke-dasharray:6 3}
 .hollow{stroke-width:1.5}"""
 
 
