@@ -67,25 +67,30 @@ def three():
     for turn in range(5):
         guest.add(f"fill 0 {turn + 16}")
         guest.turn(("write", 6 * turn, 4), ("read", 2 * turn, 2))
-    sizes = {**SIZES, "blocks": 64, "shelf": 16, "slice": 20, "small": 12, "pages": 2, "migrate": 2}
+    sizes = {**SIZES, "blocks": 64, "shelf": 16, "slice": 20, "small": 16, "pages": 4, "migrate": 2}
     return script_of(sizes, "sq 8 cq 8 pages 4", [guest]), {}
 
 
 def restart():
-    """Rounds in which writes come faster than the copying for a while, and a change is lost."""
+    """Rounds in which writes come faster than the copying for a while, and then a change is lost."""
     guests = [Guest(1), Guest(2)]
-    for turn in range(24):
-        rush = 7 <= turn < 12
-        writes = [("write", 8 * ((5 * turn + 9 * i) % 31), 8) for i in range(6 if rush else turn % 3)]
+    for turn in range(1, 27):
+        rush = 7 <= turn < 10
+        writes = [("write", 8 * ((6 * turn + i) % 16), 8) for i in range(6 if rush else turn % 2)]
         guests[0].turn(*writes, ("read", 8 * (turn % 30), 4))
-        if turn == 11:
+        if turn == 12:
             guests[1].turn(*[("zeroes", 34 * i, 30) for i in range(7)])
-        elif turn % 4 == 3:
-            guests[1].turn(("compare", 8 * turn, 4), ("write", 252, 8))
-        else:
+        elif turn % 8 == 4:
+            guests[1].add(f"fill 2 {turn:02x}")
+            guests[1].submit("compare", 200, 4, "2 -")
+            guests[1].turn(("write", 240, 8))
+        elif turn % 2:
             guests[1].add(f"fill {turn % 4} {turn + 16:02x}")
             guests[1].turn(("write", 200 + turn, 4), ("verify", turn, 16))
-    return script_of({**SIZES, "migrate": 4}, "sq 16 cq 16 pages 4", guests), {}
+        else:
+            guests[1].turn(("read", 200 + turn, 8))
+    sizes = {**SIZES, "mix": 0, "slice": 32, "change": 8, "pages": 6, "migrate": 4}
+    return script_of(sizes, "sq 16 cq 16 pages 6", guests), {}
 
 
 def given_up():
@@ -110,7 +115,7 @@ def eight():
             # Hot blocks of the lane's own, and one in 512 past the end.
             first = 8192 * (guest.lane - 1) + 16 * (word >> 24) % 256 if word >> 40 & 511 else 65535
             guest.submit(opcode, first, 1 + (word >> 52) % 16, f"{page} {page + 1}")
-    sizes = {"blocks": 65536, "shelf": 1024, "burst": 16, "mix": 5, "change": 1024, "slice": 1024, "small": 900, "pages": 128,
+    sizes = {"blocks": 65536, "shelf": 1024, "burst": 16, "mix": 5, "change": 1024, "slice": 384, "small": 900, "pages": 128,
              "patience": 400, "migrate": 60}
     return script_of(sizes, "sq 64 cq 64 pages 64", guests), {}
 

@@ -58,18 +58,20 @@ def bars(run, frame, lane, top):
 
 
 def label(command, x, y, width, tall):
-    """The letter on a bar; on that of a failed command a cross behind it, and the status."""
+    """The letter on a bar; on that of a failed command a cross, with letter and status where there is room."""
     letter = KINDS[command.kind][0]
     parts = []
-    if tall >= 11 and width >= 12:
-        style = "letter" if command.failed else f"letter on-{command.kind}"
-        words = letter
-        if command.failed and width > svg.width_of(f"{letter} {command.status}", 11) + 14:
-            words = f"{letter} {command.status}"
-        parts.append(svg.text(x + 3, y + tall / 2 + 4, words, "small" if command.failed else style))
-    if command.failed:
-        size = max(4, min(7, tall - 4, width - 1))
-        parts.append(svg.path([svg.cross(x + width - size / 2 - 3, y + tall / 2, size)], "bad"))
+    if not command.failed:
+        if tall >= 11 and width >= 14:
+            parts.append(svg.text(x + min(width / 2, 9), y + tall / 2 + 4, letter, f"letter on-{command.kind}", "middle"))
+        return parts
+    size = max(4, min(7, tall - 4, width - 1))
+    place = width / 2 if width < 30 else width - size / 2 - 4
+    parts.append(svg.path([svg.cross(x + place, y + tall / 2, size)], "bad"))
+    if tall >= 11 and width >= 30:
+        words = f"{letter} {command.status}"
+        words = words if width > svg.width_of(words, 11) + 18 else letter
+        parts.append(svg.text(x + 4, y + tall / 2 + 4, words, "small"))
     return parts
 
 
@@ -101,7 +103,7 @@ def stacks(frame, lane, top, most):
         if any(command.failed for command in commands):
             failed.append(svg.box(x, top, width - 0.6, 5))
     parts = [svg.path(shape, kind) for kind, shape in shapes.items()] + [svg.path(failed, "fails")]
-    parts.append(svg.text(LEFT - 6, top + 16, svg.grouped(most), "small muted", "end"))
+    parts.append(svg.text(LEFT - 6, top + 10, svg.grouped(most), "small muted", "end"))
     return parts, boxes, 8 + most * unit
 
 

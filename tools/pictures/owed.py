@@ -20,7 +20,7 @@ def bars_of(run, frame, field, start):
         value = getattr(one, field)
         bar = bars.setdefault(frame.column_of[one.turn], Bar())
         bar.value = max(bar.value, value)
-        bar.rose |= before is not None and value >= before and value > 0
+        bar.rose |= before is not None and value > before
         bar.restarts += one.restarted
         before = value
     return bars
@@ -28,7 +28,7 @@ def bars_of(run, frame, field, start):
 
 def values_axis(top, height, most, name):
     """The axis on the left with its grid."""
-    step = steps(most, max(1, height // 30))
+    step = steps(most, max(2, height // 30))
     parts = [svg.text(12, top + 12, name, "head")]
     for value in range(0, most + 1, step):
         y = top + height - height * value / most
@@ -48,7 +48,7 @@ def numbers(frame, bars, top, height, most):
     for index in chosen:
         x, width = frame.column(index)
         y = top + height - height * bars[index].value / most - 4
-        parts.append(svg.text(x + width / 2, y, svg.grouped(bars[index].value), "small", "middle"))
+        parts.append(svg.text(x + width / 2, y, svg.grouped(bars[index].value), "small value", "middle"))
     return parts
 
 
@@ -81,7 +81,7 @@ def legend(run, frame):
     found = list(bars_of(run, frame, "blocks", None).values()) + list(bars_of(run, frame, "pages", None).values())
     items = [("fell", "blocks"), ("pages", "pages")] if any(one.pages for one in run.rounds) else [("fell", "blocks")]
     if any(bar.rose for bar in found):
-        items.append(("rose", "as much as before or more: writes came as fast as the copying, or faster"))
+        items.append(("rose", "more than before: writes came faster than the copying"))
     if any(one.restarted for one in run.rounds):
         items.append(("again", "restart: a change was lost, and copying began anew"))
     if run.script and "small" in run.script.sizes and "pages" in run.script.sizes:

@@ -128,16 +128,24 @@ def marks(run, frame):
     return [(at[0], "migrate")] + ([(at[1], ", ".join(words))] if words else [])
 
 
-def marked(found, y):
-    """The words of marks over their places in the ribbon; words that would meet others stand in a row of their own."""
-    parts, ends = [], []
+def rows_of(found):
+    """For each mark its place, the middle of its words, the words and their row; words that would meet others get a row above."""
+    placed, ends = [], []
     for x, words in found:
         wide = svg.width_of(words, 11)
         left = max(4, min(x - wide / 2, WIDTH - 8 - wide))
         row = next((row for row, end in enumerate(ends) if end < left), len(ends))
         ends[row : row + 1] = [left + wide + 10]
-        here = y - row * ROW
-        parts += [svg.line(x, here + 3, x, y + 26, "mark"), svg.text(left + wide / 2, here, words, "small", "middle")]
+        placed.append((x, left + wide / 2, words, row))
+    return placed, len(ends)
+
+
+def marked(placed, y):
+    """The words of marks, with lines down into the ribbon."""
+    parts = []
+    for x, middle, words, row in placed:
+        parts.append(svg.line(x, y - row * ROW + 3, x, y + 26, "mark"))
+        parts.append(svg.text(middle, y - row * ROW, words, "small", "middle"))
     return parts
 
 
@@ -188,9 +196,9 @@ def draw(run):
     for words, is_warning in notes:
         y += ROW
         front.append(svg.text(12, y, words, "small warning" if is_warning else "small muted"))
-    found = marks(run, frame)
-    top = y + 20 + (2 * ROW if found else 0)
-    body, y = ribbon(run, frame, top) + marked(found, top - 6), top + 20
+    placed, rows = rows_of(marks(run, frame))
+    top = y + 18 + rows * ROW
+    body, y = ribbon(run, frame, top) + marked(placed, top - 6), top + 20
     if run.rounds:
         parts, y = owed_part(run, frame, y + 26)
         body += parts

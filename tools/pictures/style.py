@@ -43,6 +43,7 @@ FIXED = """text{font:12px system-ui,-apple-system,"Segoe UI","DejaVu Sans",sans-
 text.title{font-size:19px;font-weight:600}
 text.head{font-size:13px;font-weight:600}
 text.small{font-size:11px}
+text.value{paint-order:stroke;stroke-width:3px;stroke-linejoin:round}
 text.letter{font-size:11px;font-weight:600}
 .grid,.axis,.mark,.cut,.bad{fill:none;stroke-width:1}
 .mark{stroke-dasharray:4 3}
@@ -57,7 +58,8 @@ def rules(side):
     yield f"text{{fill:{INK[side]}}}text.muted{{fill:{MUTED[side]}}}text.warning{{fill:{WARNING[side]}}}"
     for name, what, *colours in COLOURS:
         yield f".{name}{{{what}:{colours[side]}}}"
-    ground = COLOURS[0][2 + side]
+    ground, panel = COLOURS[0][2 + side], COLOURS[1][2 + side]
+    yield f"text.value{{stroke:{panel}}}"
     for name, (_, _, *colours) in KINDS.items():
         yield f".{name}{{fill:{colours[side]}}}.hollow.{name}{{fill:{ground};stroke:{colours[side]}}}"
     yield f"text.letter{{fill:#101418}}text.letter.on-write,text.letter.on-other{{fill:{('#ffffff', '#101418')[side]}}}"
