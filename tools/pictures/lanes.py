@@ -7,7 +7,7 @@ from .style import KINDS
 
 TALL = 84
 PIECES = 18
-LEAST_BAND = 40
+LEAST_BAND = 46
 MOST_TRACKS = 14
 LEAST_TURN = 24
 
@@ -62,14 +62,14 @@ def label(command, x, y, width, tall):
     letter = KINDS[command.kind][0]
     parts = []
     if not command.failed:
-        if tall >= 11 and width >= 14:
+        if letter and tall >= 11 and width >= 14:
             parts.append(svg.text(x + min(width / 2, 9), y + tall / 2 + 4, letter, f"letter on-{command.kind}", "middle"))
         return parts
     size = max(4, min(7, tall - 4, width - 1))
     place = width / 2 if width < 30 else width - size / 2 - 4
     parts.append(svg.path([svg.cross(x + place, y + tall / 2, size)], "bad"))
     if tall >= 11 and width >= 30:
-        words = f"{letter} {command.status}"
+        words = f"{letter} {command.status}".lstrip()
         words = words if width > svg.width_of(words, 11) + 18 else letter
         parts.append(svg.text(x + 4, y + tall / 2 + 4, words, "small"))
     return parts
@@ -153,7 +153,7 @@ def legend(run, single):
     """What the bands' signs mean."""
     found = [command for lane in run.lanes.values() for command in lane.commands]
     kinds = {command.kind for command in found}
-    items = [(kind, f"{KINDS[kind][0]} {KINDS[kind][1]}" if single else KINDS[kind][1]) for kind in KINDS if kind in kinds]
+    items = [(kind, f"{KINDS[kind][0]} {KINDS[kind][1]}".lstrip() if single else KINDS[kind][1]) for kind in KINDS if kind in kinds]
     if any(command.failed for command in found):
         items.append(("cross", "failed") if single else ("fails", "some of the column failed"))
     return items + [("pieces", "pieces a turn")]

@@ -7,10 +7,11 @@ HEADROOM = 26
 
 
 class Bar:
-    """What a column shows: the most that is owed after one of its rounds, and whether that rose, or copying began anew."""
+    """What a column shows: the most that is owed after one of its rounds, what is owed after the last of them, whether it rose
+    in one, and whether copying began anew."""
 
     def __init__(self):
-        self.value, self.rose, self.restarts = 0, False, 0
+        self.value, self.last, self.rose, self.restarted = 0, 0, False, False
 
 
 def bars_of(run, frame, field, start):
@@ -19,9 +20,9 @@ def bars_of(run, frame, field, start):
     for one in run.rounds:
         value = getattr(one, field)
         bar = bars.setdefault(frame.column_of[one.turn], Bar())
-        bar.value = max(bar.value, value)
+        bar.value, bar.last = max(bar.value, value), value
         bar.rose |= before is not None and value > before
-        bar.restarts += one.restarted
+        bar.restarted |= one.restarted
         before = value
     return bars
 
@@ -48,7 +49,8 @@ def numbers(frame, bars, top, height, most):
     for index in chosen:
         x, width = frame.column(index)
         y = top + height - height * bars[index].value / most - 4
-        parts.append(svg.text(x + width / 2, y, svg.grouped(bars[index].value), "small value", "middle"))
+        value = bars[index].last if index == chosen[-1] else bars[index].value
+        parts.append(svg.text(x + width / 2, y, svg.grouped(value), "small value", "middle"))
     return parts
 
 
@@ -67,7 +69,7 @@ def panel(run, frame, top, height, field, start, small):
         tall = height * bar.value / most
         style = "rose" if bar.rose else "fell" if field == "blocks" else "pages"
         shapes[style].append(svg.box(x, top + height - tall, max(width - 1, 1), tall))
-        if bar.restarts and field == "blocks":
+        if bar.restarted and field == "blocks":
             marks.append(svg.diamond(x + width / 2, top - HEADROOM + 7, 10))
     parts += [svg.path(shape, style) for style, shape in shapes.items()]
     if small is not None and 0 < small < most:

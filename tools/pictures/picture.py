@@ -14,7 +14,7 @@ def title_of(run):
     """What the run was, in a few words."""
     count = len(run.rounds)
     if run.migrated is None:
-        return "A run without a migration"
+        return "A run without a migration" if run.cut is None else "A run, cut before its end and before any migration"
     if run.ending is None:
         return f"A migration that is still under way, after {svg.counted(count, 'round')}"
     if run.ending[0] == "give up":
@@ -54,7 +54,7 @@ def notes_of(run, frame, single):
     if not single:
         notes.append(("Thinned: commands are too many for bars from fetch to post; they are stacked where they were fetched.", False))
     if run.script is None:
-        notes.append(("No script stands in front: opcodes are as far as the lines tell them, and turns as far as their order does.", False))
+        notes.append(("Without its script in front, opcodes and turns are told as far as the lines show them.", False))
     return notes
 
 
@@ -110,9 +110,10 @@ def ribbon(run, frame, y):
 
 
 def marks(run, frame):
-    """The lines of the migration that stand between turns: their place and their words."""
+    """The lines of the migration that stand between turns, and the cut: their place and their words."""
+    cut = [] if run.cut is None else [(RIGHT, "cut")]
     if run.migrated is None:
-        return []
+        return cut
     words = []
     if run.suspended is not None:
         words = ["suspend"]
@@ -124,8 +125,8 @@ def marks(run, frame):
     if run.suspended is not None:
         at.append(frame.pause() + frame.gap / 2)
     if run.migrated == run.suspended:
-        return [(at[0], ", ".join(["migrate", *words]))]
-    return [(at[0], "migrate")] + ([(at[1], ", ".join(words))] if words else [])
+        return [(at[0], ", ".join(["migrate", *words])), *cut]
+    return [(at[0], "migrate")] + ([(at[1], ", ".join(words))] if words else []) + cut
 
 
 def rows_of(found):
@@ -162,9 +163,10 @@ def owed_part(run, frame, y):
     parts, y = heading("Owed after each round", owed.legend(run, frame), y)
     y += 8 + owed.HEADROOM
     parts += owed.panel(run, frame, y, OWED_TALL, "blocks", sizes.get("blocks"), sizes.get("small"))
-    y += OWED_TALL + 8 + owed.HEADROOM
+    has_pages = any(one.pages for one in run.rounds)
+    y += OWED_TALL + 8 + (owed.HEADROOM if has_pages else 0)
     parts += owed.panel(run, frame, y, PAGES_TALL, "pages", None, sizes.get("pages"))
-    return parts, y + (PAGES_TALL if any(one.pages for one in run.rounds) else 12)
+    return parts, y + (PAGES_TALL if has_pages else 12)
 
 
 def heading(words, items, y):
@@ -202,9 +204,12 @@ def draw(run):
     if run.rounds:
         parts, y = owed_part(run, frame, y + 26)
         body += parts
-    parts, boxes, foot = lanes_part(run, frame, y + 28, single)
-    body += parts + turns_axis(frame, foot)
-    height = foot + 48
+    boxes = []
+    if run.turns:
+        parts, boxes, y = lanes_part(run, frame, y + 28, single)
+        body += parts + turns_axis(frame, y)
+        y += 36
+    height = y + 12
     lines = [
         f'<svg xmlns="http://www.w3.org/2000/svg" viewBox="0 0 {WIDTH} {svg.number(height)}" role="img"'
         f' width="{WIDTH}" height="{svg.number(height)}">',

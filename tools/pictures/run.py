@@ -11,25 +11,28 @@ STAGES = {"reap": (0, 0), "act": (0, 1), "fetch": (0, 2), "piece": (1, 0), "post
 class Command:
     """A command from its fetch on. `kind` names its opcode, or what the transcript alone tells of it."""
 
-    __slots__ = ("lane", "cid", "kind", "turn", "fetched", "posted", "status", "lines", "compares", "digests", "pieces")
+    __slots__ = ("lane", "cid", "kind", "turn", "fetched", "posted", "status", "lines", "pieces", "guess")
 
-    def __init__(self, lane, cid, kind, turn, fetched, status):
+    def __init__(self, lane, cid, kind, turn, fetched, status, pieces):
         self.lane, self.cid, self.kind, self.turn, self.fetched, self.status = lane, cid, kind, turn, fetched, status
-        self.posted = None
+        self.pieces = pieces
+        self.posted = self.guess = None
         self.lines = [fetched]
-        self.compares = self.digests = False
-        self.pieces = 0
 
     @property
     def failed(self):
         """Whether its checks or its completion said something else than Success."""
         return self.status != "0 00"
 
+    def see_piece(self, number, has_digest, differs):
+        """A piece at a line; it may tell the opcode."""
+        self.lines.append(number)
+        self.guess = "read" if has_digest else "compare" if differs else self.guess or "other"
+
     def tell_kind(self):
         """What the transcript alone tells of the opcode, where no script stood in front."""
         if self.kind is None:
-            by_pieces = "other" if self.pieces else "none"
-            self.kind = "read" if self.digests else "compare" if self.compares or self.status == "2 85" else by_pieces
+            self.kind = self.guess or ("unknown" if self.pieces else "none")
 
 
 class Round:
@@ -117,7 +120,7 @@ class Run:
         self.place(number, "fetch", fields[0], None)
         lane = self.lane(fields[0])
         act, kind = lane.submitted.popleft() if lane.submitted else (None, None)
-        command = Command(int(fields[0]), fields[1], kind, self.turns, number, fields[2])
+        command = Command(int(fields[0]), fields[1], kind, self.turns, number, fields[2], int(fields[3]))
         if act:
             command.lines.insert(0, act)
         lane.commands.append(command)
@@ -130,10 +133,7 @@ class Run:
         command = next((one for one in lane.running if one.cid == fields[1]), None)
         if command is None:
             raise NoTranscript(number, f"a piece of command {fields[1]} of lane {fields[0]}, which isn't running.")
-        command.pieces += 1
-        command.lines.append(number)
-        command.digests |= fields[6] is not None
-        command.compares |= fields[7] is not None
+        command.see_piece(number, fields[6] is not None, fields[7] is not None)
         lane.pieces[self.turns] = lane.pieces.get(self.turns, 0) + 1
 
     def post(self, number, fields):
@@ -184,7 +184,8 @@ def read_run(text):
             events[kind](number, fields)
         else:
             run.step(number, kind, fields)
-        run.lines.append(line)
+        if kind != "cut":
+            run.lines.append(line)
     for lane in run.lanes.values():
         for command in lane.commands:
             command.tell_kind()

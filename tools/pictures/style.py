@@ -8,9 +8,9 @@ KINDS = {
     "zeroes": ("Z", "Write Zeroes", "#cc79a7", "#e29bc3"),
     "verify": ("V", "Verify", "#e3d12f", "#f0e442"),
     "flush": ("F", "Flush", "#8a8a8a", "#9a9a9a"),
-    "unknown": ("?", "unknown opcode", "#404040", "#d8d8d8"),
-    "other": ("b", "Write, Write Zeroes, Compare or Verify", "#0072b2", "#2f8fdb"),
-    "none": ("n", "without pieces: a Flush, or refused", "#8a8a8a", "#9a9a9a"),
+    "unknown": ("?", "opcode not known", "#404040", "#d8d8d8"),
+    "other": ("", "Write, Write Zeroes, Compare or Verify", "#0072b2", "#2f8fdb"),
+    "none": ("", "without pieces: a Flush, or refused", "#8a8a8a", "#9a9a9a"),
 }
 
 # Other colours: a class, its property, and the colours in light and dark.

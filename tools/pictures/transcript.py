@@ -59,16 +59,19 @@ def parsed(text):
     """A line's first word (or all of it, where it has no numbers) and its fields; None where no line has this form."""
     if text in PLAIN:
         return text, ()
-    form = FORMS.get(text.partition(" ")[0])
-    found = form and form.fullmatch(text)
-    return (form.pattern.partition(" ")[0], found.groups()) if found else None
+    word = text.partition(" ")[0]
+    found = word in FORMS and FORMS[word].fullmatch(text)
+    return (word, found.groups()) if found else None
 
 
 def is_in_range(kind, fields):
     """Whether the numbers of a line are: identifiers below 65,536, others of 32 bits."""
     if kind in EVENTS and kind != "act" and int(fields[1]) > 65_535:
         return False
-    return all(int(field) <= MOST for field in fields if field and len(field) == 10 and field.isdigit())
+    for field in fields:
+        if field and len(field) == 10 and field.isdigit() and int(field) > MOST:
+            return False
+    return True
 
 
 def next_place(place, kind):
@@ -99,7 +102,9 @@ def numbered_lines(text):
         if place is None:
             raise NoTranscript(number, f"{shown(line)} can't stand here: {ORDER[before][1]}.")
         yield number, kind, fields, line
-    if place in ("start", "title") or (rest and place == "end"):
-        raise NoTranscript(number + 1, f"{ORDER[place][1]}, and here stands {shown(rest) if rest else 'nothing'}.")
+    if place == "start":
+        raise NoTranscript(number + 1, f"{ORDER[place][1]}, and the text ends before that.")
+    if rest and place == "end":
+        raise NoTranscript(number + 1, f"{ORDER[place][1]}, and here stands {shown(rest)}.")
     if place != "end":
         yield number, "cut", (), ""
