@@ -36,8 +36,9 @@ def tracks_of(lane, last):
 
 def is_drawn_singly(run, frame):
     """Whether each command has room for a bar of its own."""
-    most = max((tracks_of(lane, len(run.lines))[1] for lane in run.lanes.values()), default=0)
-    return frame.turn_width >= LEAST_TURN and most <= MOST_TRACKS
+    if frame.turn_width < LEAST_TURN:
+        return False
+    return all(tracks_of(lane, len(run.lines))[1] <= MOST_TRACKS for lane in run.lanes.values())
 
 
 def bars(run, frame, lane, top):

@@ -21,8 +21,9 @@ def bars_of(run, frame, field, start):
         value = getattr(one, field)
         bar = bars.setdefault(frame.column_of[one.turn], Bar())
         bar.value, bar.last = max(bar.value, value), value
-        bar.rose |= before is not None and value > before
-        bar.restarted |= one.restarted
+        began_anew = one.restarted and field == "blocks"
+        bar.rose |= before is not None and value > before and not began_anew
+        bar.restarted |= began_anew
         before = value
     return bars
 
@@ -69,7 +70,7 @@ def panel(run, frame, top, height, field, start, small):
         tall = height * bar.value / most
         style = "rose" if bar.rose else "fell" if field == "blocks" else "pages"
         shapes[style].append(svg.box(x, top + height - tall, max(width - 1, 1), tall))
-        if bar.restarted and field == "blocks":
+        if bar.restarted:
             marks.append(svg.diamond(x + width / 2, top - HEADROOM + 7, 10))
     parts += [svg.path(shape, style) for style, shape in shapes.items()]
     if small is not None and 0 < small < most:

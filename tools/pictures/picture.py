@@ -4,58 +4,11 @@ from html import escape
 from . import lanes, owed, svg
 from .frame import LEFT, RIGHT, WIDTH, Frame
 from .style import sheet
+from .words import copied, notes_of, summary_of, title_of
 
 OWED_TALL = 120
 PAGES_TALL = 46
 ROW = 17
-
-
-def title_of(run):
-    """What the run was, in a few words."""
-    count = len(run.rounds)
-    if run.migrated is None:
-        return "A run without a migration" if run.cut is None else "A run, cut before its end and before any migration"
-    if run.ending is None:
-        return f"A migration that is still under way, after {svg.counted(count, 'round')}"
-    if run.ending[0] == "give up":
-        return f"A migration that was given up after {svg.counted(count, 'round')}"
-    if not count:
-        return "A migration in one step, without rounds"
-    restarts = sum(one.restarted for one in run.rounds)
-    return f"A migration in {svg.counted(count, 'round')}" + (f" with {svg.counted(restarts, 'restart')}" if restarts else "")
-
-
-def summary_of(run):
-    """Sentences on what was done."""
-    commands = [command for lane in run.lanes.values() for command in lane.commands]
-    failed = sum(command.failed for command in commands)
-    words = [
-        f"{svg.counted(len(run.lanes), 'lane')} and {svg.counted(len(commands), 'command')} in {svg.counted(run.turns, 'turn')}; "
-        + (f"{svg.grouped(failed)} failed." if failed else "none failed.")
-    ]
-    if run.pause:
-        blocks, pages = (svg.counted(*pair) for pair in zip(run.pause, ("block", "page")))
-        words.append(f"{blocks} and {pages} were copied while the guests stood still.")
-    if run.ending:
-        words.append(f"The guests went on at the {'source' if run.ending[0] == 'give up' else 'destination'}.")
-    return " ".join(words)
-
-
-def notes_of(run, frame, single):
-    """What the picture leaves out or can't know, a sentence each, and whether it is a warning."""
-    notes = []
-    if run.cut is not None:
-        notes.append((f"Cut: the transcript ends behind line {svg.grouped(run.cut)}, without 'end'. It is drawn up to there.", True))
-    if frame.group > 1:
-        notes.append((
-            f"Thinned: a column stands for {frame.group} turns. It shows all their commands, and the most that was owed and"
-            " the most pieces in one of them.", False
-        ))
-    if not single:
-        notes.append(("Thinned: commands are too many for bars from fetch to post; they are stacked where they were fetched.", False))
-    if run.script is None:
-        notes.append(("Without its script in front, opcodes and turns are told as far as the lines show them.", False))
-    return notes
 
 
 def legend(items, y):
@@ -118,9 +71,9 @@ def marks(run, frame):
     if run.suspended is not None:
         words = ["suspend"]
         if run.pause:
-            words.append(" and ".join(svg.counted(*pair) for pair in zip(run.pause, ("block", "page"))) + " copied")
+            words.append(copied(run))
     if run.ending:
-        words.append(run.ending[0] + ("" if run.ending[0] == "resume to" else ": a call of a medium failed"))
+        words.append(run.ending[0])
     at = frame.bounds()
     if run.suspended is not None:
         at.append(frame.pause() + frame.gap / 2)
@@ -150,10 +103,10 @@ def marked(placed, y):
     return parts
 
 
-def turns_axis(frame, y):
+def turns_axis(frame, y, single):
     """The axis of turns."""
     parts = [svg.text(frame.middle(turn), y + 18, svg.grouped(turn), "small muted", "middle") for turn in frame.ticks()]
-    words = "turn (all are equally wide; within one, its events from left to right)"
+    words = "turn (all are equally wide; within one, its events from left to right)" if single else "turn"
     return [*parts, svg.text((LEFT + RIGHT) / 2, y + 36, words, "muted", "middle")]
 
 
@@ -191,13 +144,12 @@ def draw(run):
     """The picture of a run as the text of an SVG file, and its boxes."""
     frame = Frame(run)
     single = lanes.is_drawn_singly(run, frame)
-    title, summary = title_of(run), summary_of(run)
-    notes = notes_of(run, frame, single)
-    front = [svg.text(12, 30, title, "title"), svg.text(12, 52, summary, "muted")]
-    y = 52
-    for words, is_warning in notes:
+    title = title_of(run)
+    lines = [(words, "") for words in summary_of(run)] + notes_of(run, frame, single)
+    front, y = [svg.text(12, 30, title, "title")], 35
+    for words, style in lines:
         y += ROW
-        front.append(svg.text(12, y, words, "small warning" if is_warning else "small muted"))
+        front.append(svg.text(12, y, words, style))
     placed, rows = rows_of(marks(run, frame))
     top = y + 18 + rows * ROW
     body, y = ribbon(run, frame, top) + marked(placed, top - 6), top + 20
@@ -207,17 +159,17 @@ def draw(run):
     boxes = []
     if run.turns:
         parts, boxes, y = lanes_part(run, frame, y + 28, single)
-        body += parts + turns_axis(frame, y)
+        body += parts + turns_axis(frame, y, single)
         y += 36
     height = y + 12
-    lines = [
+    parts = [
         f'<svg xmlns="http://www.w3.org/2000/svg" viewBox="0 0 {WIDTH} {svg.number(height)}" role="img"'
         f' width="{WIDTH}" height="{svg.number(height)}">',
         f"<title>{escape(title)}</title>",
-        f"<desc>{escape(' '.join([summary, *(words for words, _ in notes)]))}</desc>",
+        f"<desc>{escape(' '.join(words for words, _ in lines))}</desc>",
         sheet(),
         svg.rect(0, 0, WIDTH, height, "ground"),
         *front, *body,
         "</svg>",
     ]
-    return "\n".join(line for line in lines if line) + "\n", boxes
+    return "\n".join(part for part in parts if part) + "\n", boxes

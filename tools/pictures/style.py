@@ -7,10 +7,10 @@ KINDS = {
     "compare": ("C", "Compare", "#009e73", "#17b287"),
     "zeroes": ("Z", "Write Zeroes", "#cc79a7", "#e29bc3"),
     "verify": ("V", "Verify", "#e3d12f", "#f0e442"),
-    "flush": ("F", "Flush", "#8a8a8a", "#9a9a9a"),
-    "unknown": ("?", "opcode not known", "#404040", "#d8d8d8"),
+    "flush": ("F", "Flush", "#4a4f55", "#6b7480"),
+    "unknown": ("?", "opcode not known", "#000000", "#e6edf3"),
     "other": ("", "Write, Write Zeroes, Compare or Verify", "#0072b2", "#2f8fdb"),
-    "none": ("", "without pieces: a Flush, or refused", "#8a8a8a", "#9a9a9a"),
+    "none": ("", "without pieces: a Flush, or refused", "#4a4f55", "#6b7480"),
 }
 
 # Other colours: a class, its property, and the colours in light and dark.
@@ -62,8 +62,8 @@ def rules(side):
     yield f"text.value{{stroke:{panel}}}"
     for name, (_, _, *colours) in KINDS.items():
         yield f".{name}{{fill:{colours[side]}}}.hollow.{name}{{fill:{ground};stroke:{colours[side]}}}"
-    yield f"text.letter{{fill:#101418}}text.letter.on-write,text.letter.on-other{{fill:{('#ffffff', '#101418')[side]}}}"
-    yield f"text.letter.on-unknown{{fill:{ground}}}"
+    yield "text.letter{fill:#101418}"
+    yield f"text.letter.on-write,text.letter.on-flush,text.letter.on-unknown{{fill:{('#ffffff', '#101418')[side]}}}"
 
 
 def sheet():
