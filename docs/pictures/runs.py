@@ -33,17 +33,21 @@ class Guest:
         self.add("idle")
 
 
+WORDS = ("burst", "mix", "change", "slice", "small", "pages", "patience", "migrate")
+
+
 def script_of(sizes, lanes, guests):
     """The text of a script: sizes by their words, `lanes` the queues' sizes and data pages of each."""
     lines = ["nvmigrate script 1", f"blocks {sizes['blocks']}", f"shelf {sizes['shelf']}", f"lanes {len(guests)}"]
     lines += [f"lane {guest.lane} {lanes}" for guest in guests]
-    lines += [f"{word} {sizes[word]}" for word in ("burst", "mix", "change", "slice", "small", "pages", "patience", "migrate")
-              if word in sizes]
+    lines += [f"{word} {sizes[word]}" for word in WORDS if word in sizes]
     lines += [act for guest in guests for act in guest.acts]
     return "\n".join(lines + ["end"]) + "\n"
 
 
-SIZES = {"blocks": 256, "shelf": 32, "burst": 16, "mix": 7, "change": 12, "slice": 24, "small": 16, "pages": 4, "patience": 64}
+SIZES = {
+    "blocks": 256, "shelf": 32, "burst": 16, "mix": 7, "change": 12, "slice": 24, "small": 16, "pages": 4, "patience": 64,
+}
 
 
 def none():
@@ -115,8 +119,10 @@ def eight():
             # Hot blocks of the lane's own, and one in 512 past the end.
             first = 8192 * (guest.lane - 1) + 16 * (word >> 24) % 256 if word >> 40 & 511 else 65535
             guest.submit(opcode, first, 1 + (word >> 52) % 16, f"{page} {page + 1}")
-    sizes = {"blocks": 65536, "shelf": 1024, "burst": 16, "mix": 5, "change": 1024, "slice": 384, "small": 900, "pages": 128,
-             "patience": 400, "migrate": 60}
+    sizes = {
+        "blocks": 65536, "shelf": 1024, "burst": 16, "mix": 5, "change": 1024, "slice": 384, "small": 900, "pages": 128,
+        "patience": 400, "migrate": 60,
+    }
     return script_of(sizes, "sq 64 cq 64 pages 64", guests), {}
 
 

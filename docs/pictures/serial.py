@@ -1,8 +1,8 @@
 """A run of a script on one thread with a migration in rounds, as the lines of its transcript.
 
-The program runs no rounds yet, so this makes the transcripts of which pictures are shown and tried. It follows the rules of
-turns and rounds line by line, and no more: one array of blocks stands for both hosts. Once the program runs rounds, its own
-output takes this file's place.
+The program runs no rounds yet, so this makes the transcripts of which pictures are shown and tried. It follows the rules
+of turns and rounds to the byte, and no more: one array of blocks stands for both hosts. Once the program runs rounds, its
+own output takes this file's place.
 """
 import hashlib
 from collections import deque
@@ -261,7 +261,8 @@ class Engine:
             done += failure is None
         command.at += count
         digest = " " + hashlib.sha256(read).hexdigest() if command.opcode == 0x02 else ""
-        self.lines.append(f"piece {lane.number} {command.cid} {first} {count} {stop + (f' {done}' if failure else '')}{digest}")
+        outcome = f"{stop} {done}" if failure else stop
+        self.lines.append(f"piece {lane.number} {command.cid} {first} {count} {outcome}{digest}")
         if failure and command.status == "0 00":
             command.status = failure
         if done and command.opcode in (0x01, 0x08) and self.migration:
@@ -306,7 +307,7 @@ class Engine:
         else:
             moving.is_full = True
 
-    def copy(self, _):
+    def copy(self):
         """One block goes to the destination. Raises Fault."""
         self.source.call("get")
         self.destination.call("put")
@@ -321,10 +322,9 @@ class Engine:
     def copy_in_turn(self):
         """A copy of a round."""
         moving = self.migration
-        block = moving.due.popleft()
-        moving.blocks.discard(block)
+        moving.blocks.discard(moving.due.popleft())
         try:
-            self.copy(block)
+            self.copy()
         except Fault:
             moving.has_failed = True
             moving.due.clear()
@@ -370,8 +370,8 @@ class Engine:
         moving = self.migration
         self.lines.append("suspend")
         try:
-            for block in sorted(moving.blocks):
-                self.copy(block)
+            for _ in moving.blocks:
+                self.copy()
         except Fault:
             return self.end("give up")
         self.lines.append(f"pause {len(moving.blocks)} {len(moving.pages | moving.touched)}")

@@ -11,7 +11,7 @@ LEAST = 3
 
 
 class Frame:
-    """The time axis of a run. `columns` has the first and the last turn of each column, and `group` the most turns of one."""
+    """The time axis of a run. `columns` has the first and the last turn of each column, `group` the most turns of one."""
 
     def __init__(self, run):
         self.run = run

@@ -64,7 +64,8 @@ def label(command, x, y, width, tall):
     parts = []
     if not command.failed:
         if letter and tall >= 11 and width >= 14:
-            parts.append(svg.text(x + min(width / 2, 9), y + tall / 2 + 4, letter, f"letter on-{command.kind}", "middle"))
+            style = f"letter on-{command.kind}"
+            parts.append(svg.text(x + min(width / 2, 9), y + tall / 2 + 4, letter, style, "middle"))
         return parts
     size = max(4, min(7, tall - 4, width - 1))
     place = width / 2 if width < 30 else width - size / 2 - 4
@@ -120,7 +121,8 @@ def pieces(frame, lane, top, most):
         tall = PIECES * count / most
         shape.append(svg.box(x, top + PIECES - tall, max(width - 0.6, 1), tall))
     base = svg.line(LEFT, top + PIECES, RIGHT, top + PIECES, "axis")
-    return [svg.path(shape, "pieces"), base, svg.text(LEFT - 6, top + 9, svg.counted(most, "piece"), "small muted", "end")]
+    scale = svg.text(LEFT - 6, top + 9, svg.counted(most, "piece"), "small muted", "end")
+    return [svg.path(shape, "pieces"), base, scale]
 
 
 def band(run, frame, number, top, single, most):
@@ -154,7 +156,10 @@ def legend(run, single):
     """What the bands' signs mean."""
     found = [command for lane in run.lanes.values() for command in lane.commands]
     kinds = {command.kind for command in found}
-    items = [(kind, f"{KINDS[kind][0]} {KINDS[kind][1]}".lstrip() if single else KINDS[kind][1]) for kind in KINDS if kind in kinds]
+    items = []
+    for kind, (letter, words, *_) in KINDS.items():
+        if kind in kinds:
+            items.append((kind, f"{letter} {words}" if single and letter else words))
     if any(command.failed for command in found):
         items.append(("cross", "failed") if single else ("fails", "some of the column failed"))
     return items + [("pieces", "pieces a turn")]

@@ -7,8 +7,8 @@ HEADROOM = 26
 
 
 class Bar:
-    """What a column shows: the most that is owed after one of its rounds, what is owed after the last of them, whether it rose
-    in one, and whether copying began anew."""
+    """What a column shows: the most that is owed after one of its rounds, what is owed after the last of them, whether it
+    rose in one, and whether copying began anew."""
 
     def __init__(self):
         self.value, self.last, self.rose, self.restarted = 0, 0, False, False
@@ -34,7 +34,8 @@ def values_axis(top, height, most, name):
     parts = [svg.text(12, top + 12, name, "head")]
     for value in range(0, most + 1, step):
         y = top + height - height * value / most
-        parts += [svg.line(LEFT, y, RIGHT, y, "grid"), svg.text(LEFT - 6, y + 4, svg.grouped(value), "small muted", "end")]
+        parts.append(svg.line(LEFT, y, RIGHT, y, "grid"))
+        parts.append(svg.text(LEFT - 6, y + 4, svg.grouped(value), "small muted", "end"))
     return parts
 
 
@@ -59,9 +60,10 @@ def panel(run, frame, top, height, field, start, small):
     """A panel over the rounds, as lines of SVG."""
     bars = bars_of(run, frame, field, start)
     most = max([bar.value for bar in bars.values()] + [start or 0, 1])
-    parts = frame.ground(top - HEADROOM, height + HEADROOM)
     if not any(bar.value for bar in bars.values()):
-        return [svg.text(12, top + 12, field, "head"), svg.text(LEFT + 8, top + 12, f"no {field} after any round", "small muted")]
+        words = svg.text(LEFT + 8, top + 12, f"no {field} after any round", "small muted")
+        return [svg.text(12, top + 12, field, "head"), words]
+    parts = frame.ground(top - HEADROOM, height + HEADROOM)
     parts += values_axis(top, height, most, field)
     shapes = {"fell": [], "rose": [], "pages": []}
     marks = []
@@ -88,6 +90,7 @@ def legend(run, frame):
     if any(one.restarted for one in run.rounds):
         items.append(("again", "restart: a change was lost, and copying began anew"))
     if run.script and "small" in run.script.sizes and "pages" in run.script.sizes:
-        blocks, pages = (svg.counted(run.script.sizes[word], one) for word, one in (("small", "block"), ("pages", "page")))
+        sizes = run.script.sizes
+        blocks, pages = svg.counted(sizes["small"], "block"), svg.counted(sizes["pages"], "page")
         items.append(("limit", f"the guests are suspended at {blocks} and {pages} or fewer"))
     return items

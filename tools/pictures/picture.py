@@ -46,8 +46,8 @@ def phases(run, frame):
         found.append((stop, stop + frame.gap, "paused", []))
     if run.ending:
         there = run.ending[0] == "resume to"
-        words = ["guests at the destination", "destination"] if there else ["guests at the source again", "source again", "source"]
-        found.append((stop + frame.gap, end, "there" if there else "source", words))
+        where = "destination" if there else "source again"
+        found.append((stop + frame.gap, end, "there" if there else "source", [f"guests at the {where}", where]))
     return [part for part in found if part[1] - part[0] > 0.05]
 
 
@@ -83,7 +83,9 @@ def marks(run, frame):
 
 
 def rows_of(found):
-    """For each mark its place, the middle of its words, the words and their row; words that would meet others get a row above."""
+    """For each mark its place, the middle of its words, the words and their row; and the number of rows.
+
+    Words that would meet others stand in a row above."""
     placed, ends = [], []
     for x, words in found:
         wide = svg.width_of(words, 11)

@@ -4,7 +4,7 @@ from collections import deque
 from .script import has_script, opcode_of, read_front
 from .transcript import NoTranscript, numbered_lines
 
-# Where an event stands in its turn: what a lane's guest takes and does and its controller fetches; all pieces; all posts.
+# Where an event stands in its turn: what a guest takes and does and its controller fetches; all pieces; all posts.
 STAGES = {"reap": (0, 0), "act": (0, 1), "fetch": (0, 2), "piece": (1, 0), "post": (2, 0)}
 
 
@@ -141,7 +141,8 @@ class Run:
         self.place(number, "post", fields[0], None)
         lane = self.lane(fields[0])
         if not lane.running or lane.running[0].cid != fields[1]:
-            raise NoTranscript(number, f"a completion of command {fields[1]}, which isn't lane {fields[0]}'s oldest running one.")
+            words = f"a completion of command {fields[1]}, which isn't lane {fields[0]}'s oldest running one."
+            raise NoTranscript(number, words)
         command = lane.running.popleft()
         command.posted, command.status = number, fields[2]
         command.lines.append(number)

@@ -6,12 +6,12 @@ from .transcript import NoTranscript, shown
 TITLE = "nvmigrate script 1"
 END = "end"
 
-NUMBER = r"(?:0|[1-9]\d*)"
+NUMBER = r"(?:0|[1-9]\d{0,19})"
 HEAD = re.compile(rf"(blocks|shelf|lanes|burst|mix|change|slice|small|pages|patience|migrate) ({NUMBER})", re.ASCII)
 LANE = re.compile(rf"lane ([1-8]) sq ({NUMBER}) cq ({NUMBER}) pages ({NUMBER})", re.ASCII)
 ACT = re.compile(
-    rf"[1-8] (?:wait|idle|fill {NUMBER} [0-9a-f]{{2}}|poke {NUMBER} {NUMBER} (?:[0-9a-f]{{2}}){{1,32}}|raw [0-9a-f]{{128}}"
-    rf"|list {NUMBER}(?: {NUMBER}){{1,8}}"
+    rf"[1-8] (?:wait|idle|fill {NUMBER} [0-9a-f]{{2}}|poke {NUMBER} {NUMBER} (?:[0-9a-f]{{2}}){{1,32}}"
+    rf"|raw [0-9a-f]{{128}}|list {NUMBER}(?: {NUMBER}){{1,8}}"
     rf"|submit {NUMBER} (?:flush|write|read|compare|zeroes|verify) {NUMBER} {NUMBER} (?:-|{NUMBER}) (?:-|{NUMBER}))",
     re.ASCII,
 )
@@ -19,7 +19,7 @@ OPCODES = {0x00: "flush", 0x01: "write", 0x02: "read", 0x05: "compare", 0x08: "z
 
 
 class Script:
-    """A script: `sizes` by the words of its head, `lanes` with (sq, cq, pages), and `acts` with the words of each lane's acts."""
+    """A script: `sizes` by the words of its head, `lanes` with (sq, cq, pages), and `acts`, the words of each lane's acts."""
 
     def __init__(self):
         self.sizes = {}

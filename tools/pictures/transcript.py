@@ -15,7 +15,8 @@ FORMS = {
     "reap": re.compile(f"reap {LANE} {IDENTIFIER} {STATUS} {NUMBER} [01]", re.ASCII),
     "fetch": re.compile(f"fetch {LANE} {IDENTIFIER} {STATUS} {NUMBER}", re.ASCII),
     "piece": re.compile(
-        f"piece {LANE} {IDENTIFIER} {NUMBER} {NUMBER} (?:(ok|fault {NUMBER})( [0-9a-f]{{64}})?|differs {NUMBER})", re.ASCII
+        f"piece {LANE} {IDENTIFIER} {NUMBER} {NUMBER} (?:(ok|fault {NUMBER})( [0-9a-f]{{64}})?|differs {NUMBER})",
+        re.ASCII,
     ),
     "post": re.compile(f"post {LANE} {IDENTIFIER} {STATUS}", re.ASCII),
     "round": re.compile(f"round {NUMBER} {NUMBER}", re.ASCII),
@@ -24,7 +25,7 @@ FORMS = {
 PLAIN = {TITLE, "ready", "migrate", "restart", "suspend", "resume to", "give up", "end"}
 EVENTS = ("act", "reap", "fetch", "piece", "post")
 
-# What may stand behind a line, and what is said where something else stands there. An event keeps the place it stands at.
+# What may stand behind a line, and what is said where something else stands there. An event leads back to its place.
 ORDER = {
     "start": ({TITLE: "title"}, f"a transcript begins with '{TITLE}'"),
     "title": ({"ready": "before"}, "the second line of a transcript is 'ready'"),
@@ -82,10 +83,10 @@ def next_place(place, kind):
 
 
 def numbered_lines(text):
-    """The lines of a transcript, each its number, first word and fields; then whether it was whole.
+    """The lines of a transcript in order, each as its number from 1 on, its first word, its fields and its text.
 
-    A generator of (number, kind, fields, line), from 1 on. Its last item has the kind 'cut', and stands only where the text
-    ends before its line 'end', or within a line; its number is that of the last whole line. Raises NoTranscript.
+    Where the text ends before the line 'end', or within a line, the last one has the first word 'cut' and the number of
+    the last whole line. Raises NoTranscript.
     """
     place = "start"
     lines = text.split("\n")
