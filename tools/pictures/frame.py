@@ -53,7 +53,7 @@ class Frame:
     def ticks(self):
         """The turns that have a number on the axis."""
         step = max(steps(self.turns, 24), steps(self.turns, (RIGHT - LEFT) // 44))
-        return [turn for turn in range(1, self.turns + 1) if turn == 1 or turn % step == 0]
+        return [turn for turn in range(1, self.turns + 1) if turn % step == 0 or (turn == 1 and step > 2)]
 
     def middle(self, turn):
         """The middle of a turn."""
