@@ -159,9 +159,11 @@ def draw(run):
         parts, y = owed_part(run, frame, y + 26)
         body += parts
     boxes = []
-    if run.turns:
+    if run.lanes:
         parts, boxes, y = lanes_part(run, frame, y + 28, single)
-        body += parts + turns_axis(frame, y, single)
+        body += parts
+    if run.turns:
+        body += turns_axis(frame, y, single)
         y += 36
     height = y + 12
     parts = [

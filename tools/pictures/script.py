@@ -7,7 +7,13 @@ TITLE = "nvmigrate script 1"
 END = "end"
 
 NUMBER = r"(?:0|[1-9]\d{0,19})"
-HEAD = re.compile(rf"(blocks|shelf|lanes|burst|mix|change|slice|small|pages|patience|migrate) ({NUMBER})", re.ASCII)
+# The sizes of a head, with the least and the greatest number of each.
+RANGES = {
+    "blocks": (1, 131_072), "shelf": (1, 65_536), "lanes": (1, 8), "burst": (1, 64), "mix": (0, 4_294_967_295),
+    "change": (2, 65_536), "slice": (1, 131_072), "small": (1, 131_072), "pages": (1, 2_064), "patience": (1, 65_535),
+    "migrate": (1, 65_535),
+}
+HEAD = re.compile(rf"({'|'.join(RANGES)}) ({NUMBER})", re.ASCII)
 LANE = re.compile(rf"lane ([1-8]) sq ({NUMBER}) cq ({NUMBER}) pages ({NUMBER})", re.ASCII)
 ACT = re.compile(
     rf"[1-8] (?:wait|idle|fill {NUMBER} [0-9a-f]{{2}}|poke {NUMBER} {NUMBER} (?:[0-9a-f]{{2}}){{1,32}}"
@@ -34,10 +40,12 @@ class Script:
             return True
         head, lane = HEAD.fullmatch(line), LANE.fullmatch(line)
         if head:
+            least, most = RANGES[head[1]]
             self.sizes[head[1]] = int(head[2])
-        elif lane:
+            return least <= self.sizes[head[1]] <= most
+        if lane:
             self.lanes[int(lane[1])] = (int(lane[2]), int(lane[3]), int(lane[4]))
-        return bool(head or lane)
+        return bool(lane)
 
 
 def opcode_of(act):
