@@ -5,11 +5,8 @@ use Rattle.std.proofs.lemmas.List.{drop-append-le, length-drop, length-map, leng
 use Rattle.std.proofs.lemmas.Bool.{le-leb}
 use Rattle.std.proofs.lemmas.List.Elements.{All-push}
 use Rattle.std.specs.Bool.{MatchBool}
-use Rattle.adm_values.specs.declared.command.AdminCmd.{AdminCmd}
 use Rattle.adm_values.specs.declared.command.What.{What}
 use Rattle.adm_values.specs.declared.command.What.TheVariants as what
-use Rattle.adm_values.specs.Command.{IsCommand, command_bytes}
-use Rattle.adm_values.proofs.CommandLemmas.{same_command}
 use Rattle.ctl_state.specs.declared.parts.PartRefusal.{PartRefusal}
 use Rattle.ctl_state.specs.declared.image.Image.{Image}
 use Rattle.ctl_state.specs.declared.image.PairState.{PairState as PairImage}
@@ -21,7 +18,7 @@ use Rattle.ctl_state.specs.declared.phase.Phase.{Phase}
 use Rattle.ctl_state.specs.declared.phase.Phase.TheVariants.{Running, Suspended, Loading}
 use Rattle.ctl_state.specs.declared.refusal.Refusal.{Refusal}
 use Rattle.ctl_state.specs.declared.refusal.Refusal.TheVariants.{IsSuspended, NotSuspended, BadDataQueue, DataQueueFull, BadSequence, InvalidField, InvalidOpcode}
-use Rattle.ctl_state.specs.Admin.{Becomes, Does, FitsBuffer, Gets, GoesOnWith, HasLength, IsCreated, IsKept, Logs, Refuses, Resumes, Sets, Suspends, TakesPart, given, image_of, is_queue, state_bytes, with_images, with_rings}
+use Rattle.ctl_state.specs.Admin.{Becomes, Does, Gets, GoesOnWith, IsCreated, IsKept, Logs, Refuses, Resumes, Sets, Suspends, TakesPart, given, image_of, is_queue, state_bytes, with_images, with_rings}
 use Rattle.ctl_state.specs.Controller.{ControllerState, PairState}
 
 -- A pair more goes on with the rings of an image.

@@ -1,4 +1,4 @@
-use Rattle.std.specs.Prelude.{◌≡◌, ◌≢◌, ◌⊎◌, Bool, ℕ, ◌+◌, ◌-◌, ◌*◌, ◌<◌, ◌≤◌, false, true, All, List, [], ◌∷◌, ◌++◌, Option, Some, None, Result, IfErr, IfOk, IsTrue, MatchResult, length, map, slice_index_or, slice_set, drop, take}
+use Rattle.std.specs.Prelude.{◌≡◌, ◌≢◌, ◌⊎◌, ℕ, ◌+◌, ◌-◌, ◌*◌, ◌<◌, ◌≤◌, false, true, All, List, [], ◌∷◌, ◌++◌, Option, Some, None, Result, IfErr, IfOk, IsTrue, MatchResult, length, map, slice_index_or, slice_set, drop, take}
 use Rattle.std.specs.List.{flat_map, range_with_len}
 use Rattle.nvm_values.specs.declared.op.Op.TheVariants.{Flush}
 use Rattle.nvm_values.specs.declared.sqe.Sqe.{Sqe}
@@ -13,7 +13,6 @@ use Rattle.nvm_model.specs.declared.line.Line.{Line}
 use Rattle.nvm_model.specs.declared.line.Line.TheVariants as line
 use Rattle.nvm_model.specs.declared.piece.Piece.{Piece}
 use Rattle.nvm_model.specs.declared.piece.PieceResult.{PieceResult}
-use Rattle.nvm_model.specs.declared.ring.RingState.{RingState}
 use Rattle.nvm_model.specs.declared.script.LaneSet.{LaneSet}
 use Rattle.nvm_model.specs.declared.script.Script.{Script}
 use Rattle.nvm_model.specs.Check.{checked_command, pages_needed}

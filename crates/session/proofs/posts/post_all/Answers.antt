@@ -1,4 +1,4 @@
-use Rattle.std.proofs.Common.{◌≡◌, ◌∙◌, ◌<◌, ◌≤◌, ℕ, [], refl, arith}
+use Rattle.std.proofs.Common.{◌≡◌, ◌<◌, ◌≤◌, ℕ, [], refl, arith}
 use Rattle.mig_base.proofs.ListLemmas.{element_at}
 use Rattle.ctl_state.specs.Controller.{PairState, no_pair, pair_of}
 use Rattle.session.specs.declared.lane_run.LaneRun.{LaneRun}

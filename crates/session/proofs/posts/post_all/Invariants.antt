@@ -1,4 +1,4 @@
-use Rattle.std.proofs.Common.{◌≡◌, ◌*◌, ◌-◌, ◌≤◌, ℕ, List, slice_index_or}
+use Rattle.std.proofs.Common.{◌*◌, ◌-◌, ◌≤◌, ℕ, List, slice_index_or}
 use Rattle.nvm_model.specs.Turn.{PostsAll}
 use Rattle.nvm_model.specs.World.{Lane}
 use Rattle.ctl_state.specs.Controller.{pair_of}
