@@ -13,8 +13,9 @@ use Rattle.nvm_model.specs.declared.run.RunPhase.TheVariants.{Over}
 use Rattle.nvm_model.specs.declared.run.Side.{Side}
 use Rattle.nvm_model.specs.declared.run.Side.TheVariants.{Source, Destination}
 use Rattle.nvm_model.specs.Run.{SinkState, Snapshot, Task, by_side, lines_in, memory_of, start_of}
-use Rattle.nvm_model.specs.Told.{Tells, is_source, serial}
+use Rattle.nvm_model.specs.Told.{Tells, have_resumed, is_source, serial}
 use Rattle.turns.proofs.AskedLaws.{run_asks}
+use Rattle.turns.proofs.StageLineLaws.{run_is_whole}
 use Rattle.turns.proofs.EndLaws.{is_untouched}
 use Rattle.turns.proofs.RanLaws.{ran}
 use Rattle.session.specs.declared.ending.Ending.{Ending}
@@ -167,13 +168,12 @@ count_is {M} {head = head} {media} {place} o =
     ap (λ (k : ℕ). k * head.shelf) many ∙ ap (λ (k : ℕ). length n.shelves * k) (sym o.opened.namespace.shelf) ∙ o.opened.namespace.blocks
 
 tells : {M I : Type 0} {state : M → MediumState I} {s : Script} (old : Hosts M) {source destination : PlaceState M} → IsTaken s → IsOpened state Source s.head old.from source → IsOpened state Destination s.head old.to destination →
-    (blocks others : List (List ℕ)) → joined (told_in state old.from) ≡ Some blocks → joined (told_in state old.to) ≡ Some others → Tells state s blocks (start s old)
-tells old taken from to blocks others told to_told = record {
+    (resumed : Bool) (blocks : List (List ℕ)) → joined (told_in state old.from) ≡ Some blocks → (resumed ≡ true → (others : List (List ℕ)) × (joined (told_in state old.to) ≡ Some others)) → Tells state s blocks resumed (start s old)
+tells old taken from to resumed blocks told to_told = record {
   script = taken.script;
   start = refl;
   source = record { sizes = from.sizes; count = count_is from; told = told };
-  others = others;
-  destination = record { sizes = to.sizes; count = count_is to; told = to_told };
+  destination = λ went. let others = to_told went in (others.0, record { sizes = to.sizes; count = count_is to; told = others.1 });
 }
 
 run_of : {M I E : Type 0} {state : M → MediumState I} {moves : I → Step → Bool → I → Type 0} {input : Option (List ℕ)} {s : Script} {old new : Hosts M} {source destination : PlaceState M} {result : Result Ending E} (status : Status) →
@@ -204,18 +204,18 @@ run_of {M} {I} {E} {state} {moves} {input} {s} {old} {new} {result = result} sta
       };
       faults = record { never_fell = rw (g.left.from, g.left.to) g.ran.never_fell; causes = rw (g.left.from, g.left.to) g.ran.causes };
       unmoved = λ e. let stays = asks.stays (none e) in is_untouched (start s old) g.end refl stays.0 stays.1 stays.2;
-      over = on_ended status (λ is. record { over = g.over (answer.failed ∙ is); gave_up = says is });
-      ended = on_ended status (λ is blocks others told to_told.
-          let r = g.ran.ended (answer.failed ∙ is) s blocks (tells old taken from to blocks others told to_told) in
+      over = on_ended status (λ is. record { over = g.over (answer.failed ∙ is); whole = run_is_whole state moves (start s old) stages g.end refl refl refl (g.over (answer.failed ∙ is)) g.ran.run; gave_up = says is });
+      ended = on_ended status (λ is blocks told to_told.
+          let r = g.ran.ended (answer.failed ∙ is) s blocks (tells old taken from to (have_resumed stages) blocks told to_told) in
           record {
             world = r.world;
-            history = record { transcript = record { text_is = refl; are_lines = r.are_lines }; whole = r.whole; legal = r.legal };
+            history = record { transcript = record { text_is = refl; are_lines = r.are_lines }; legal = r.legal };
             turns = r.turns;
             complete = r.complete;
             hosts = r.sides;
             gave_up = r.gave_up ∙ says is;
           });
-      sink = on_write_fault status (λ is blocks others told to_told. g.ran.stopped (answer.failed ∙ is) s blocks (tells old taken from to blocks others told to_told));
+      sink = on_write_fault status (λ is blocks told to_told. g.ran.stopped (answer.failed ∙ is) s blocks (tells old taken from to (have_resumed stages) blocks told to_told));
     }
 
 -- the same of the places that the hosts were opened as

@@ -1,4 +1,4 @@
-use Rattle.std.specs.Prelude.{◌≡◌, ℕ, Bool, false, ◌&&◌, List, ◌++◌, Option, Some, None, Result, IfOk, is_err, length}
+use Rattle.std.specs.Prelude.{◌≡◌, ℕ, Bool, true, false, ◌&&◌, List, ◌++◌, Option, Some, None, Result, IfOk, is_err, length}
 use Rattle.std.specs.List.{flat_map}
 use Rattle.mig_base.specs.Count.{NeverFall, RiseBy}
 use Rattle.nvm_model.specs.declared.line.Line.{Line}
@@ -17,7 +17,7 @@ use Rattle.nvm_model.specs.declared.run.RunPhase.TheVariants.{Over}
 use Rattle.nvm_model.specs.declared.run.Side.TheVariants.{Source, Destination}
 use Rattle.turns.specs.Ran.{Ran}
 use Rattle.nvm_model.specs.Run.{IsStage, IsWritten, SinkState, Snapshot, Stage, calls_at, lines_in, media_at, memory_at, start_of}
-use Rattle.nvm_model.specs.Told.{HasStopped, IsUntouched, SidesHold, is_source, serial}
+use Rattle.nvm_model.specs.Told.{HasStopped, IsUntouched, SidesHold, have_resumed, is_source, serial}
 use Rattle.session.specs.declared.ending.Ending.{Ending}
 use Rattle.session.specs.Place.{pages_of}
 use Rattle.session.specs.Sides.{IsEnding}
@@ -55,9 +55,10 @@ pub record AreLeft {M : Type 0} (end : Snapshot M) (new : Hosts M) : Type 0 wher
 abbrev pub faults_of : {M I : Type 0} → (M → MediumState I) → Hosts M → List ℕ
 faults_of state h = faults_in state h.from ++ faults_in state h.to
 
--- of blocks of the source, where the media of both hosts tell theirs
-abbrev pub IfTold : {M I : Type 0} → (M → MediumState I) → Hosts M → (List (List ℕ) → Type 0) → Type 0
-IfTold state h P = (blocks others : List (List ℕ)) → joined (told_in state h.from) ≡ Some blocks → joined (told_in state h.to) ≡ Some others → P blocks
+-- of blocks of the source, where its media tell them, and, where the guests went on there, the destination's media some
+abbrev pub IfTold : {M I : Type 0} → (M → MediumState I) → Bool → Hosts M → (List (List ℕ) → Type 0) → Type 0
+IfTold state resumed h P =
+    (blocks : List (List ℕ)) → joined (told_in state h.from) ≡ Some blocks → (resumed ≡ true → (others : List (List ℕ)) × (joined (told_in state h.to) ≡ Some others)) → P blocks
 
 -- Each side's media, by their places, got exactly the calls of the stages on that side, in order, whether they tell their
 -- blocks or not. None of them changed its size.
@@ -72,17 +73,16 @@ pub record HaveCauses (lines : List Line) (old new : List ℕ) : Type 0 where
   pub never_fell : NeverFall old new
   pub causes : RiseBy (faults_shown lines) old new
 
--- the lines are a whole transcript for the script, and their events, each legal where it stands, reach the world
+-- the lines are those of the format, and their events, each legal where it stands, reach the world
 pub record IsHistory (s : Script) (blocks : List (List ℕ)) (lines : List Line) (w : World) : Type 0 where
   pub transcript : IsTranscript (text_of lines) lines
-  pub whole : IsWhole s lines
   pub legal : Reaches s blocks (events_of lines) w
 
 -- A run that came to its end, from these blocks of the source, with these lines.
 pub record HasEnded {M I : Type 0} (state : M → MediumState I) (s : Script) (blocks : List (List ℕ)) (lines : List Line) (end : Snapshot M) (status : Status) : Type 0 where
   pub world : World
-  -- The text is a whole transcript of the script, and its events are a legal history of one controller over one array of
-  -- blocks that never moved: each fetched command once, in its queue's order.
+  -- The transcript's events are a legal history of one controller over one array of blocks that never moved: each fetched
+  -- command once, in its queue's order.
   pub history : IsHistory s blocks lines world
   -- The events stand in turns, whose pieces have the script's order, and the migration stands where the script asks for it.
   pub turns : RunsInTurns s blocks lines world
@@ -95,8 +95,10 @@ pub record HasEnded {M I : Type 0} (state : M → MediumState I) (s : Script) (b
   pub gave_up : has_given_up lines ≡ is_gave_up status
 
 -- A run that came to its end, whatever the media tell.
-pub record IsOver {M : Type 0} (end : Snapshot M) (status : Status) : Type 0 where
+pub record IsOver {M : Type 0} (s : Script) (lines : List Line) (end : Snapshot M) (status : Status) : Type 0 where
   pub over : end.phase ≡ Over
+  -- The lines are a whole transcript of the script: two in front, events, the migration that it asks for, events, and the end.
+  pub whole : IsWhole s lines
   -- The answer says that the migration was given up exactly where one was begun and the guests are at the source.
   pub gave_up : (end.tried && is_source end.side) ≡ is_gave_up status
 
@@ -121,11 +123,11 @@ pub record IsRun {M I : Type 0} (state : M → MediumState I) (moves : I → Ste
   -- where no migration is asked for, the destination is as it was, with zeroed memory
   pub unmoved : script.head.migrate ≡ None → IsUntouched (start script old) end
   -- After `Done` and `GaveUp` the last stage is the end, whatever the media tell.
-  pub over : OnEnded status (IsOver end status)
-  -- And where the media of both hosts tell their blocks, all of this holds.
-  pub ended : OnEnded status (IfTold state old (λ blocks. HasEnded state script blocks (lines_in script stages) end status))
+  pub over : OnEnded status (IsOver script (lines_in script stages) end status)
+  -- And where the media over which the guests went tell their blocks, all of this holds.
+  pub ended : OnEnded status (IfTold state (have_resumed stages) old (λ blocks. HasEnded state script blocks (lines_in script stages) end status))
   -- After `WriteFault` so does this, of what was written and of what was done.
-  pub sink : OnWriteFault status (IfTold state old (λ blocks. HasStopped state script blocks (start script old) end))
+  pub sink : OnWriteFault status (IfTold state (have_resumed stages) old (λ blocks. HasStopped state script blocks (start script old) end))
 
 -- What is known of a run before its answer is: the result says how it ended.
 pub record HasGone {M I E : Type 0} (state : M → MediumState I) (moves : I → Step → Bool → I → Type 0) (from : Snapshot M) (result : Result Ending E) (new : Hosts M) : Type 0 where

@@ -16,8 +16,9 @@ use Rattle.nvm_model.specs.Turn.{RunsInTurns}
 use Rattle.nvm_model.specs.World.{World}
 use Rattle.nvm_model.specs.declared.run.Side.{Side}
 use Rattle.nvm_model.specs.declared.run.Side.TheVariants.{Source, Destination}
-use Rattle.nvm_model.specs.Run.{Snapshot, Task, media_at, memory_at, memory_of, start_lanes, start_of}
+use Rattle.nvm_model.specs.Run.{Snapshot, Stage, Task, media_at, memory_at, memory_of, start_lanes, start_of}
 use Rattle.nvm_model.specs.Run.Order.{Serial}
+use Rattle.nvm_model.specs.Run.Stage.{Resume}
 
 -- What a run on one thread came to, where the media of both sides tell their blocks.
 
@@ -31,13 +32,20 @@ pub record Tell {M I : Type 0} (state : M → MediumState I) (h : Head) (media :
   pub count : length media * h.shelf ≡ h.blocks
   pub told : joined (told_in state media) ≡ Some blocks
 
--- A run's start, where the source's media tell these blocks, and the destination's some.
-pub record Tells {M I : Type 0} (state : M → MediumState I) (s : Script) (blocks : List (List ℕ)) (old : Snapshot M) : Type 0 where
+-- whether the guests went on at the other side in one of these stages
+abbrev pub resumes : Stage → Bool
+resumes (Resume side copies) = true
+resumes _ = false
+
+abbrev pub have_resumed : List Stage → Bool
+have_resumed stages = list_any resumes stages
+
+-- A run's start, where the source's media tell these blocks, and, where the guests went on there, the destination's some.
+pub record Tells {M I : Type 0} (state : M → MediumState I) (s : Script) (blocks : List (List ℕ)) (resumed : Bool) (old : Snapshot M) : Type 0 where
   pub script : IsScript s
   pub start : old ≡ start_of (serial s) old.at old.other old.out
   pub source : Tell state s.head old.at blocks
-  pub others : List (List ℕ)
-  pub destination : Tell state s.head old.other others
+  pub destination : resumed ≡ true → (others : List (List ℕ)) × Tell state s.head old.other others
 
 -- a side's media tell the blocks of the world, and its memory is the world's, byte for byte
 pub record Holds {M I : Type 0} (state : M → MediumState I) (s : Script) (who : Side) (t : Snapshot M) (w : World) : Type 0 where

@@ -1,5 +1,6 @@
 // The hosts that the program runs over.
-ghost use Rattle.std.specs.Prelude.{◌≤◌};
+ghost use Rattle.std.specs.Prelude.{◌≡◌, ℕ, ◌*◌, ◌≤◌, All, IfOk, length, map, string_bytes};
+ghost use Rattle.nvmigrate.specs.Hosts.{AreFresh, IsEmptyHost, IsZeroed, IsZeroedHost};
 
 use engine::geometry;
 use guest_ram::{Host, Ram};
@@ -7,11 +8,13 @@ use mig_base::OutOfMemory;
 use mig_medium::MemMedium;
 use std::alloc::Global;
 
-/// The two hosts: of zeroed blocks in memory for words that run a script, and empty otherwise.
+/// The two hosts: of zeroed blocks in memory, whose calls never fail, for words that run a script, and empty otherwise.
 pub(crate) fn hosts(
     alloc: Global,
     words: &[String],
-) -> Result<(Host<MemMedium>, Host<MemMedium>), OutOfMemory> {
+) -> Result<(Host<MemMedium>, Host<MemMedium>), OutOfMemory>
+    ensures { IfOk result (λ h. AreFresh (map string_bytes words.now) h.0 h.1) }
+{
     match geometry(words) {
         Some((blocks, shelf)) => {
             let from = memory_host(alloc, blocks, shelf)?;
@@ -22,7 +25,9 @@ pub(crate) fn hosts(
     }
 }
 
-fn empty_host(alloc: Global) -> Host<MemMedium> {
+fn empty_host(alloc: Global) -> Host<MemMedium>
+    ensures { IsEmptyHost result }
+{
     Host {
         shelves: Vec::new(alloc),
         ram: Ram::empty(),
@@ -30,16 +35,31 @@ fn empty_host(alloc: Global) -> Host<MemMedium> {
 }
 
 fn memory_host(alloc: Global, blocks: u32, shelf: u32) -> Result<Host<MemMedium>, OutOfMemory>
-    requires { 1 ≤ shelf }
+    requires { (1 ≤ shelf) × ((n : ℕ) × (n ≤ 64) × (blocks ≡ n * shelf)) }
+    ensures { IfOk result (IsZeroedHost blocks shelf) }
 {
-    let count = blocks / shelf;
-    let mut shelves = Vec::with_capacity(alloc, count as usize)?;
-    for _ in 0..count {
-        let medium = MemMedium::make(alloc, shelf, 0, Vec::new(alloc), Vec::new(alloc))?;
-        shelves.push(medium).map_err(|_| OutOfMemory)?;
-    }
+    let shelves = memory_media(alloc, blocks / shelf, shelf)?;
     Ok(Host {
         shelves,
         ram: Ram::empty(),
     })
+}
+
+/// That many media of that many zeroed blocks.
+fn memory_media(alloc: Global, count: u32, blocks: u32) -> Result<Vec<MemMedium>, OutOfMemory>
+    ensures count { IfOk result (λ media. length media.items ≡ count) }
+    ensures zeroed { IfOk result (λ media. All (IsZeroed blocks) media.items) }
+{
+    let mut media = Vec::with_capacity(alloc, count as usize)?;
+    for _ in 0..count {
+        let medium = zeroed_medium(alloc, blocks)?;
+        media.push(medium).map_err(|_| OutOfMemory)?;
+    }
+    Ok(media)
+}
+
+fn zeroed_medium(alloc: Global, blocks: u32) -> Result<MemMedium, OutOfMemory>
+    ensures { IfOk result (IsZeroed blocks) }
+{
+    MemMedium::make(alloc, blocks, 0, Vec::new(alloc), Vec::new(alloc))
 }

@@ -1,4 +1,5 @@
 // What the program tells of itself.
+ghost use Rattle.std.specs.Prelude.{◌≡◌, IfSome, length};
 
 const HELP: &str = "\
 nvmigrate: a software NVMe controller whose runs are proved to be legal histories
@@ -41,7 +42,9 @@ exit status
 const VERSION: &str = "nvmigrate 0.1.0\n";
 
 /// The text that the words ask for, where they are `--help` or `--version`.
-pub(crate) fn told(words: &[String]) -> Option<&'static str> {
+pub(crate) fn told(words: &[String]) -> Option<&'static str>
+    ensures { IfSome result (λ _. length words.now ≡ 1) }
+{
     match words {
         [word] if word.as_str() == "--help" => Some(HELP),
         [word] if word.as_str() == "--version" => Some(VERSION),

@@ -15,7 +15,7 @@ use Rattle.nvm_model.specs.declared.run.RunPhase.TheVariants.{Over}
 use Rattle.nvm_model.specs.declared.run.Side.{Side}
 use Rattle.nvm_model.specs.declared.run.Side.TheVariants.{Source, Destination}
 use Rattle.nvm_model.specs.Run.{IsStage, Snapshot, Stage, Task, among, by_side, lines_in, memory_at, memory_of}
-use Rattle.nvm_model.specs.Told.{HasRun, Holds, IsUntouched, SidesHold, Tell, Tells, is_source}
+use Rattle.nvm_model.specs.Told.{HasRun, have_resumed, Holds, is_source, IsUntouched, SidesHold, Tell, Tells}
 use Rattle.turns.proofs.PieceLaws.{Blocks}
 use Rattle.turns.proofs.ToldLaws.{Behind, Ended, GivenUp, Moved, Stands, StandsAt, Tried, Untried, Way, events_behind, moving, run_stands, side_of}
 use Rattle.turns.proofs.WholeLaws.{Whole, in_turns, is_given_up, is_legal, is_whole, migrates, moved_point, reaches_mid, whole_are_lines, whole_gives_up, whole_lines, whole_resumes}
@@ -65,7 +65,7 @@ pub record Ending {M I : Type 0} (state : M → MediumState I) (s : Script) (blo
   pub gave_up : is_given_up way ≡ (new.tried && is_source new.side)
   pub untouched : new.tried ≡ false → IsUntouched old new
 
-untried_ending : {M I : Type 0} {state : M → MediumState I} {s : Script} {blocks : Blocks} {old new : Snapshot M} {front : List Line} → Tells state s blocks old → Untried state s blocks old new front → s.head.migrate ≡ None → Complete s (among new.lanes) →
+untried_ending : {M I : Type 0} {state : M → MediumState I} {s : Script} {blocks : Blocks} {old new : Snapshot M} {front : List Line} {resumed : Bool} → Tells state s blocks resumed old → Untried state s blocks old new front → s.head.migrate ≡ None → Complete s (among new.lanes) →
     Ending state s blocks old new (front ++ line.End ∷ [])
 untried_ending {M} {I} {state} {s} {blocks} {old} {new} {front} t u none complete =
     let f = u.turned in
@@ -127,7 +127,7 @@ tried_ending {M} {I} {state} {s} {blocks} {old} {new} {front} u complete =
       untouched = λ none. let tried = u.tried in absurd cc;
     }
 
-pub ending : {M I : Type 0} {state : M → MediumState I} {s : Script} {blocks : Blocks} {old new : Snapshot M} {lines : List Line} → Tells state s blocks old → Ended state s blocks old new lines → Ending state s blocks old new lines
+pub ending : {M I : Type 0} {state : M → MediumState I} {s : Script} {blocks : Blocks} {old new : Snapshot M} {lines : List Line} {resumed : Bool} → Tells state s blocks resumed old → Ended state s blocks old new lines → Ending state s blocks old new lines
 ending {M} {I} {state} {s} {blocks} {old} {new} {lines} t e = subst (λ (ls : List Line). Ending state s blocks old new ls) (sym e.lines_are) (by e.way)
   where
     by : (Untried state s blocks old new e.front × (s.head.migrate ≡ None)) ⊎ Tried state s blocks new e.front → Ending state s blocks old new (e.front ++ line.End ∷ [])
@@ -149,7 +149,7 @@ has_run {M} {I} {state} {s} {blocks} {old} {new} {lines} script e =
       untouched = e.untouched;
     })
 
-pub run_ended : {M I : Type 0} (state : M → MediumState I) (moves : I → Step → Bool → I → Type 0) (s : Script) (blocks : Blocks) (old : Snapshot M) (stages : List Stage) (new : Snapshot M) → Tells state s blocks old → Chain (IsStage state moves) old stages new →
+pub run_ended : {M I : Type 0} (state : M → MediumState I) (moves : I → Step → Bool → I → Type 0) (s : Script) (blocks : Blocks) (old : Snapshot M) (stages : List Stage) (new : Snapshot M) → Tells state s blocks (have_resumed stages) old → Chain (IsStage state moves) old stages new →
     new.phase ≡ Over → HasRun state s blocks old new (lines_in s stages)
 run_ended state moves s blocks old stages new t c over =
-    has_run t.script (ending t (subst (λ (p : RunPhase). StandsAt state s blocks old p new (lines_in s stages)) over (run_stands state moves s blocks old stages new t c)))
+    has_run t.script (ending t (subst (λ (p : RunPhase). StandsAt state s blocks old p new (lines_in s stages)) over (run_stands state moves s blocks old stages new t (λ r. r) c)))

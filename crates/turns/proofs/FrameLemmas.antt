@@ -533,7 +533,7 @@ turns_steps s n w [] v h = h
 turns_steps s n w (turn ∷ turns) v h = steps_more s w h.0 v turn (events_in turns) (turn_steps h.1.turn) (turns_steps s (n + pieces_in turn) h.0 turns v h.2)
 
 -- a line that does something to a lane is an event
-step_is_event : (s : Script) (e : Line) (blocks : List (List ℕ)) (lane : Lane) (new_blocks : List (List ℕ)) (new : Lane) → LaneStep s e blocks lane new_blocks new → IsTrue (is_event e)
+pub step_is_event : (s : Script) (e : Line) (blocks : List (List ℕ)) (lane : Lane) (new_blocks : List (List ℕ)) (new : Lane) → LaneStep s e blocks lane new_blocks new → IsTrue (is_event e)
 step_is_event s (line.Act k n) blocks lane new_blocks new h = refl
 step_is_event s (line.Reap k cid status head phase) blocks lane new_blocks new h = refl
 step_is_event s (line.Fetch k cid status pieces) blocks lane new_blocks new h = refl

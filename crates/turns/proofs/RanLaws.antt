@@ -26,5 +26,5 @@ ran {M} {I} {state} {moves} {old} {new} {failed} w over =
       text = w.text;
       counted = w.counted;
       ended = λ is t blocks tells. run_ended state moves t blocks old w.stages new tells w.run (over is);
-      stopped = λ is t blocks tells. run_stopped state moves t blocks old new tells (subst (λ (f : Bool). Went state moves old f new) is w);
+      stopped = λ is t blocks tells. run_stopped state moves t blocks old new failed is w tells;
     }

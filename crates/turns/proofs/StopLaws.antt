@@ -1,6 +1,7 @@
 use Rattle.std.proofs.Common.{◌≡◌, ◌⊎◌, ◌||◌, ℕ, inl, inr, ⊎_elim, Bool, true, false, List, [], ◌∷◌, ◌++◌, Option, Some, None, length, refl, sym, ap, subst, ◌∙◌, append_assoc, append-nil, arith}
 use Rattle.std.specs.Prelude.{slice_get}
 use Rattle.std.specs.List.{list_any}
+use Rattle.std.proofs.lemmas.List.Folds.{list_any-append}
 use Rattle.std.specs.Option.{option_map}
 use Rattle.std.proofs.Math.Seq.{get_or-append_seam}
 use Rattle.std.proofs.lemmas.List.{length-append}
@@ -24,7 +25,7 @@ use Rattle.nvm_model.specs.declared.run.Side.{Side}
 use Rattle.nvm_model.specs.declared.run.Side.TheVariants.{Source, Destination}
 use Rattle.nvm_model.specs.Run.{IsStage, IsTitle, IsWritten, Snapshot, Stage, TakesTurn, TurnDone, Went, lines_in, lines_of, turn_lines}
 use Rattle.nvm_model.specs.Run.Stage.{Title, Turn, Begin, Resume, GiveUp, End}
-use Rattle.nvm_model.specs.Told.{HasStopped, Holds, IsUntouched, SideHolds, Tells, faults_of, is_migrate}
+use Rattle.nvm_model.specs.Told.{faults_of, HasStopped, have_resumed, Holds, is_migrate, IsUntouched, resumes, SideHolds, Tells}
 use Rattle.turns.proofs.CalmLaws.{faults_more}
 use Rattle.turns.proofs.EndLaws.{ending, holds_behind, holds_here, is_untouched}
 use Rattle.turns.proofs.FrameLemmas.{steps_are_events, steps_more, turn_steps, turns_steps}
@@ -34,7 +35,7 @@ use Rattle.turns.proofs.OnwardLaws.{Onward, begun_onward, tried_onward, untried_
 use Rattle.turns.proofs.PieceLaws.{Blocks}
 use Rattle.turns.proofs.RunLaws.{lines_in_more}
 use Rattle.turns.proofs.TextLaws.{part_longer, split_cut, split_text}
-use Rattle.turns.proofs.ToldLaws.{Begun, Behind, Ended, GivenUp, Moved, StandsAt, Tried, Untried, Way, at_phase, begin, end, events_behind, give_up, moving, next_turn, resume, run_stands, side_of, title, tried_end, tried_turn, untried_end, untried_turn}
+use Rattle.turns.proofs.ToldLaws.{Begun, Behind, Ended, GivenUp, Moved, StandsAt, Tried, Untried, Way, at_phase, begin, end, events_behind, give_up, moving, next_turn, or_right, resume, run_stands, side_of, title, tried_end, tried_turn, untried_end, untried_turn}
 use Rattle.turns.proofs.WholeLaws.{events_around, in_turns, is_legal, is_whole, whole_are_lines, whole_lines}
 
 -- A run that stopped where the sink failed: its last stage was done, and a front of that stage's lines was written.
@@ -154,7 +155,7 @@ way_migrate s GivenUp before after = migrate_in before _
 tried_migrate : {M I : Type 0} {state : M → MediumState I} {s : Script} {blocks : Blocks} {x : Snapshot M} {front : List Line} → Tried state s blocks x front → list_any is_migrate front ≡ true
 tried_migrate {s = s} u = ap (list_any is_migrate) u.lines_are ∙ way_migrate s u.way (events_in u.before) (events_in u.after)
 
-untried_untouched : {M I : Type 0} {state : M → MediumState I} {s : Script} {blocks : Blocks} {old x : Snapshot M} {lines : List Line} → Tells state s blocks old → Untried state s blocks old x lines → IsUntouched old x
+untried_untouched : {M I : Type 0} {state : M → MediumState I} {s : Script} {blocks : Blocks} {old x : Snapshot M} {lines : List Line} {resumed : Bool} → Tells state s blocks resumed old → Untried state s blocks old x lines → IsUntouched old x
 untried_untouched {M} {old = old} {x} t u = let f = u.turned in is_untouched old x (ap (λ (z : Snapshot M). z.side) t.start) f.side f.other f.left
 
 -- Where a run stands after the stage whose lines are cut.
@@ -168,7 +169,7 @@ record Point {M I : Type 0} (state : M → MediumState I) (s : Script) (blocks :
   untouched : (list_any is_migrate front ≡ true) ⊎ IsUntouched old new
   kind : (events_of piece ≡ []) ⊎ (AreEvents piece × ((before : List (List Line)) × (turns ≡ before ++ piece ∷ [])))
 
-title_point : {M I : Type 0} {state : M → MediumState I} {s : Script} {blocks : Blocks} {old new : Snapshot M} → Tells state s blocks old → IsTitle old new → Point state s blocks old new [] (line.Title ∷ line.Ready ∷ [])
+title_point : {M I : Type 0} {state : M → MediumState I} {s : Script} {blocks : Blocks} {old new : Snapshot M} {resumed : Bool} → Tells state s blocks resumed old → IsTitle old new → Point state s blocks old new [] (line.Title ∷ line.Ready ∷ [])
 title_point t r =
     let v = title t r in
     record {
@@ -181,7 +182,7 @@ title_point t r =
       kind = inl refl;
     }
 
-turn_point : {M I : Type 0} {state : M → MediumState I} {moves : I → Step → Bool → I → Type 0} {s : Script} {blocks : Blocks} {old x : Snapshot M} {side : Side} {d : TurnDone} {new : Snapshot M} {front : List Line} → Tells state s blocks old → TakesTurn state moves x side d new →
+turn_point : {M I : Type 0} {state : M → MediumState I} {moves : I → Step → Bool → I → Type 0} {s : Script} {blocks : Blocks} {old x : Snapshot M} {side : Side} {d : TurnDone} {new : Snapshot M} {front : List Line} {resumed : Bool} → Tells state s blocks resumed old → TakesTurn state moves x side d new →
     Untried state s blocks old x front ⊎ Tried state s blocks x front → Point state s blocks old new front (turn_lines d)
 turn_point {M} {I} {state} {moves} {s} {blocks} {old} {x} {side} {d} {new} {front} t r (inl u) =
     let v = untried_turn r u in
@@ -211,13 +212,13 @@ turn_point {M} {I} {state} {moves} {s} {blocks} {old} {x} {side} {d} {new} {fron
       kind = inr (are, (u.before ++ u.after, ap (λ (ts : List (List Line)). ts ++ v.0.after) v.2 ∙ ap (λ (ts : List (List Line)). u.before ++ ts) v.3 ∙ sym (append_assoc u.before u.after (turn_lines d ∷ []))));
     }
 
-stage_point : {M I : Type 0} (state : M → MediumState I) (moves : I → Step → Bool → I → Type 0) (s : Script) (blocks : Blocks) (old x : Snapshot M) (stage : Stage) (new : Snapshot M) (front : List Line) → Tells state s blocks old → IsStage state moves x stage new →
+stage_point : {M I : Type 0} (state : M → MediumState I) (moves : I → Step → Bool → I → Type 0) (s : Script) (blocks : Blocks) (old x : Snapshot M) (stage : Stage) (new : Snapshot M) (front : List Line) {resumed : Bool} → Tells state s blocks resumed old → (resumes stage ≡ true → resumed ≡ true) → IsStage state moves x stage new →
     StandsAt state s blocks old x.phase x front → Point state s blocks old new front (lines_of s stage)
-stage_point {M} state moves s blocks old x Title new front t r h =
+stage_point {M} state moves s blocks old x Title new front t m r h =
     let was = at_phase state s blocks old x front New r.was h in
     subst (λ (ls : List Line). Point state s blocks old new ls (lines_of s Title)) (sym was.1) (title_point t (subst (λ (z : Snapshot M). IsTitle z new) was.0 r))
-stage_point state moves s blocks old x (Turn side d) new front t r h = turn_point t r (at_phase state s blocks old x front Running r.was h)
-stage_point {M} state moves s blocks old x Begin new front t r h = by (at_phase state s blocks old x front Running r.was h)
+stage_point state moves s blocks old x (Turn side d) new front t m r h = turn_point t r (at_phase state s blocks old x front Running r.was h)
+stage_point {M} state moves s blocks old x Begin new front t m r h = by (at_phase state s blocks old x front Running r.was h)
   where
     by : Untried state s blocks old x front ⊎ Tried state s blocks x front → Point state s blocks old new front (line.Migrate ∷ line.Suspend ∷ [])
     by (inr u) = let untried = r.due.untried in let tried = u.tried in absurd cc
@@ -233,9 +234,9 @@ stage_point {M} state moves s blocks old x Begin new front t r h = by (at_phase 
           untouched = inr (is_untouched old new (ap (λ (z : Snapshot M). z.side) t.start) f.side f.other f.left);
           kind = inl refl;
         }
-stage_point {M} state moves s blocks old x (Resume side copies) new front t r h =
+stage_point {M} state moves s blocks old x (Resume side copies) new front t m r h =
     let u = at_phase state s blocks old x front Suspended r.was h in
-    let v = resume t r u in
+    let v = resume t (m refl) r u in
     let behind : Behind state s Moved new.other new.left v.0.mid = subst (λ (way : Way). Behind state s way new.other new.left v.0.mid) v.1 v.0.behind in
     let moved : new.side ≡ Destination = v.0.side ∙ ap side_of v.1 in
     let source = subst (λ (w : World). Holds state s Source new w) (sym v.2) (holds_behind moved behind.0 behind.1) in
@@ -248,7 +249,7 @@ stage_point {M} state moves s blocks old x (Resume side copies) new front t r h 
       untouched = inl (begun_migrate u);
       kind = inl refl;
     }
-stage_point {M} state moves s blocks old x (GiveUp side copies) new front t r h =
+stage_point {M} state moves s blocks old x (GiveUp side copies) new front t m r h =
     let u = at_phase state s blocks old x front Suspended r.was h in
     let v = give_up t r u in
     record {
@@ -260,7 +261,7 @@ stage_point {M} state moves s blocks old x (GiveUp side copies) new front t r h 
       untouched = inl (begun_migrate u);
       kind = inl refl;
     }
-stage_point {M} state moves s blocks old x End new front t r h = by (at_phase state s blocks old x front Running r.was h)
+stage_point {M} state moves s blocks old x End new front t m r h = by (at_phase state s blocks old x front Running r.was h)
   where
     onward : Ended state s blocks old new (front ++ line.End ∷ []) → Onward s blocks [] (front ++ line.End ∷ [])
     onward e =
@@ -382,14 +383,17 @@ chain_last : {S A : Type 0} (R : S → A → S → Type 0) (x : S) (front : List
 chain_last R x [] a y c = (x, refl, subst (R x a) (sym c.2) c.1)
 chain_last R x (b ∷ front) a y c = let others = chain_last R c.0 front a y c.2 in (others.0, (c.0, c.1, others.1), others.2)
 
-pub run_stopped : {M I : Type 0} (state : M → MediumState I) (moves : I → Step → Bool → I → Type 0) (s : Script) (blocks : Blocks) (old new : Snapshot M) → Tells state s blocks old → Went state moves old true new → HasStopped state s blocks old new
-run_stopped {M} state moves s blocks old new t w =
+pub run_stopped : {M I : Type 0} (state : M → MediumState I) (moves : I → Step → Bool → I → Type 0) (s : Script) (blocks : Blocks) (old new : Snapshot M) (failed : Bool) → failed ≡ true → (w : Went state moves old failed new) → Tells state s blocks (have_resumed w.stages) old → HasStopped state s blocks old new
+run_stopped {M} state moves s blocks old new failed is w t =
     let script : old.task.script ≡ s = ap (λ (z : Snapshot M). z.task.script) t.start in
-    let text = subst (λ (k : Script). IsWritten k w.stages old.out.taken true new.out.taken) script w.text in
+    let text = subst (λ (k : Script). IsWritten k w.stages old.out.taken true new.out.taken) script (subst (λ (f : Bool). IsWritten old.task.script w.stages old.out.taken f new.out.taken) is w.text) in
     let front = text.0 in
     let last = text.1 in
     let parts = chain_last (IsStage state moves) old front last new (subst (λ (stages : List Stage). Chain (IsStage state moves) old stages new) text.2 w.run) in
-    let point = stage_point state moves s blocks old parts.0 last new (lines_in s front) t parts.2 (run_stands state moves s blocks old front parts.0 t parts.1) in
+    let resumed : have_resumed w.stages ≡ (have_resumed front || have_resumed (last ∷ [])) = ap have_resumed text.2 ∙ list_any-append resumes front (last ∷ []) in
+    let point = stage_point state moves s blocks old parts.0 last new (lines_in s front) t
+    (λ now. resumed ∙ or_right (have_resumed front) (have_resumed (last ∷ [])) (ap (λ (b : Bool). b || false) now)) parts.2
+    (run_stands state moves s blocks old front parts.0 t (λ before. resumed ∙ ap (λ (b : Bool). b || have_resumed (last ∷ [])) before) parts.1) in
     let rises = run_rises state moves s old w.stages new script w.run in
     let lines : lines_in s w.stages ≡ lines_in s front ++ lines_of s last =
     ap (lines_in s) text.2 ∙ lines_in_more s front (last ∷ []) ∙ ap (λ (ls : List Line). lines_in s front ++ ls) (append-nil (lines_of s last)) in

@@ -1,4 +1,4 @@
-use Rattle.std.proofs.Common.{◌≡◌, ◌⊎◌, ℕ, ◌+◌, ◌<◌, inl, inr, ⊎_elim, Bool, true, false, List, [], ◌∷◌, ◌++◌, Option, Some, None, length, refl, sym, ap, subst, ◌∙◌, append_assoc, append-nil, arith}
+use Rattle.std.proofs.Common.{◌≡◌, ◌||◌, ◌⊎◌, ℕ, ◌+◌, ◌<◌, inl, inr, ⊎_elim, Bool, true, false, List, [], ◌∷◌, ◌++◌, Option, Some, None, length, refl, sym, ap, subst, ◌∙◌, append_assoc, append-nil, arith}
 use Rattle.std.proofs.lemmas.Bool.{cases_eq}
 use Rattle.std.proofs.lemmas.List.{length-append}
 use Rattle.nvm_model.specs.declared.line.Line.{Line}
@@ -17,7 +17,7 @@ use Rattle.nvm_model.specs.declared.run.Side.{Side}
 use Rattle.nvm_model.specs.declared.run.Side.TheVariants.{Source, Destination}
 use Rattle.nvm_model.specs.Run.{AreComplete, CopiesAll, Copy, IsBegin, IsDue, IsEnd, IsGiveUp, IsResume, IsStage, IsTitle, IsTurn, SinkState, Snapshot, Stage, TakesTurn, Task, TurnDone, all_blocks, among, here, left_calls, lines_in, lines_of, memory_of, opposite, start_lanes, taken_calls, turn_lines}
 use Rattle.nvm_model.specs.Run.Stage.{Title, Turn, Begin, Resume, GiveUp, End}
-use Rattle.nvm_model.specs.Told.{Tell, Tells, serial}
+use Rattle.nvm_model.specs.Told.{have_resumed, resumes, serial, Tell, Tells}
 use Rattle.turns.proofs.CopyLaws.{gets_told, puts_told}
 use Rattle.turns.proofs.FrameLemmas.{events_in_more, pieces_in_more, turns_more}
 use Rattle.turns.proofs.PieceLaws.{Blocks, turn_told, world_of}
@@ -121,7 +121,7 @@ early_start : (wish : Option ℕ) → IsTurnNumber wish → IsEarly wish 0
 early_start None is = tt
 early_start (Some turn) is = omega (arith, is.0)
 
-pub title : {M I : Type 0} {state : M → MediumState I} {s : Script} {blocks : Blocks} {old y : Snapshot M} → Tells state s blocks old → IsTitle old y → Untried state s blocks old y (line.Title ∷ line.Ready ∷ [])
+pub title : {M I : Type 0} {state : M → MediumState I} {s : Script} {blocks : Blocks} {old y : Snapshot M} {resumed : Bool} → Tells state s blocks resumed old → IsTitle old y → Untried state s blocks old y (line.Title ∷ line.Ready ∷ [])
 title {M} {I} {state} {s} {blocks} {old} {y} h r =
     let none : old.turns ≡ 0 = ap (λ (t : Snapshot M). t.turns) h.start in
     subst (λ (z : Snapshot M). Untried state s blocks old z (line.Title ∷ line.Ready ∷ [])) (sym r.after) (record {
@@ -277,16 +277,17 @@ begin {M} {I} {state} {s} {blocks} {old} {x} {y} {lines} r u =
 ending_lines : (before begun ending : List Line) → (before ++ begun) ++ ending ≡ before ++ ((begun ++ ending) ++ [])
 ending_lines before begun ending = append_assoc before begun ending ∙ ap (λ (es : List Line). before ++ es) (sym (append-nil (begun ++ ending)))
 
-pub resume : {M I : Type 0} {state : M → MediumState I} {moves : I → Step → Bool → I → Type 0} {s : Script} {blocks : Blocks} {old x : Snapshot M} {side : Side} {copies : List Copy} {y : Snapshot M} {lines : List Line} →
-    Tells state s blocks old → IsResume state moves x side copies y → Begun state s blocks old x lines → (v : Tried state s blocks y (lines ++ lines_of s (Resume side copies))) × (v.way ≡ Moved) × (v.world ≡ v.mid)
-resume {M} {I} {state} {moves} {s} {blocks} {old} {x} {side} {copies} {y} {lines} h r u =
+pub resume : {M I : Type 0} {state : M → MediumState I} {moves : I → Step → Bool → I → Type 0} {s : Script} {blocks : Blocks} {old x : Snapshot M} {side : Side} {copies : List Copy} {y : Snapshot M} {lines : List Line} {resumed : Bool} →
+    Tells state s blocks resumed old → resumed ≡ true → IsResume state moves x side copies y → Begun state s blocks old x lines → (v : Tried state s blocks y (lines ++ lines_of s (Resume side copies))) × (v.way ≡ Moved) × (v.world ≡ v.mid)
+resume {M} {I} {state} {moves} {s} {blocks} {old} {x} {side} {copies} {y} {lines} h moved r u =
     let f = u.turned in
     let task = f.stands.task in
     let size = s.head.shelf in
     let all = subst (λ (k : Task). CopiesAll (all_blocks k.script) copies) task r.copies_all in
     let gets = subst (λ (k : Task). Chain (IsAt state moves) x.at (left_calls k.script copies) y.other) task r.gets in
     let puts = subst (λ (k : Task). Chain (IsAt state moves) x.other (taken_calls k.script copies) y.at) task r.puts in
-    let others = subst (λ (media : List M). Tell state s.head media h.others) (sym f.other) h.destination in
+    let told = h.destination moved in
+    let others = subst (λ (media : List M). Tell state s.head media told.0) (sym f.other) told.1 in
     subst (λ (z : Snapshot M). (v : Tried state s blocks z (lines ++ lines_of s (Resume side copies))) × (v.way ≡ Moved) × (v.world ≡ v.mid)) (sym r.after) (
       record {
         way = Moved;
@@ -301,7 +302,7 @@ resume {M} {I} {state} {moves} {s} {blocks} {old} {x} {side} {copies} {y} {lines
         world = f.world;
         are_after = refl;
         drawn = omega (arith, f.drawn);
-        stands = record { task = task; lanes = f.stands.lanes; tells = puts_told state moves s copies x.at x.other y.other y.at f.world.blocks h.others all gets puts f.stands.tells others };
+        stands = record { task = task; lanes = f.stands.lanes; tells = puts_told state moves s copies x.at x.other y.other y.at f.world.blocks told.0 all gets puts f.stands.tells others };
         side = ap opposite f.side;
         behind = (
           gets_told state moves s copies x.at y.other f.world.blocks gets f.stands.tells,
@@ -314,8 +315,8 @@ resume {M} {I} {state} {moves} {s} {blocks} {old} {x} {side} {copies} {y} {lines
       refl,
     )
 
-pub give_up : {M I : Type 0} {state : M → MediumState I} {moves : I → Step → Bool → I → Type 0} {s : Script} {blocks : Blocks} {old x : Snapshot M} {side : Side} {copies : List Copy} {y : Snapshot M} {lines : List Line} →
-    Tells state s blocks old → IsGiveUp state moves x side copies y → Begun state s blocks old x lines → (v : Tried state s blocks y (lines ++ line.GiveUp ∷ [])) × (v.way ≡ GivenUp)
+pub give_up : {M I : Type 0} {state : M → MediumState I} {moves : I → Step → Bool → I → Type 0} {s : Script} {blocks : Blocks} {old x : Snapshot M} {side : Side} {copies : List Copy} {y : Snapshot M} {lines : List Line} {resumed : Bool} →
+    Tells state s blocks resumed old → IsGiveUp state moves x side copies y → Begun state s blocks old x lines → (v : Tried state s blocks y (lines ++ line.GiveUp ∷ [])) × (v.way ≡ GivenUp)
 give_up {M} {I} {state} {moves} {s} {blocks} {old} {x} {side} {copies} {y} {lines} h r u =
     let f = u.turned in
     let gets = subst (λ (k : Task). Chain (IsAt state moves) x.at (left_calls k.script copies) y.at) f.stands.task r.gets in
@@ -400,36 +401,41 @@ at_phase state s blocks old x lines p is h = subst (λ (q : RunPhase). StandsAt 
 to_phase : {M I : Type 0} (state : M → MediumState I) (s : Script) (blocks : Blocks) (old x z : Snapshot M) (lines : List Line) → x ≡ z → StandsAt state s blocks old z.phase x lines → StandsAt state s blocks old x.phase x lines
 to_phase {M} state s blocks old x z lines is h = subst (λ (q : RunPhase). StandsAt state s blocks old q x lines) (sym (ap (λ (t : Snapshot M). t.phase) is)) h
 
-stage_stands : {M I : Type 0} (state : M → MediumState I) (moves : I → Step → Bool → I → Type 0) (s : Script) (blocks : Blocks) (old x : Snapshot M) (stage : Stage) (y : Snapshot M) (lines : List Line) → Tells state s blocks old → IsStage state moves x stage y →
+stage_stands : {M I : Type 0} (state : M → MediumState I) (moves : I → Step → Bool → I → Type 0) (s : Script) (blocks : Blocks) (old x : Snapshot M) (stage : Stage) (y : Snapshot M) (lines : List Line) {resumed : Bool} → Tells state s blocks resumed old → (resumes stage ≡ true → resumed ≡ true) → IsStage state moves x stage y →
     StandsAt state s blocks old x.phase x lines → StandsAt state s blocks old y.phase y (lines ++ lines_of s stage)
-stage_stands {M} state moves s blocks old x Title y lines t r h =
+stage_stands {M} state moves s blocks old x Title y lines t m r h =
     let was = at_phase state s blocks old x lines New r.was h in
     let first : IsTitle old y = subst (λ (z : Snapshot M). IsTitle z y) was.0 r in
     to_phase state s blocks old y _ (lines ++ lines_of s Title) r.after (inl (subst (λ (ls : List Line). Untried state s blocks old y (ls ++ lines_of s Title)) (sym was.1) (title t first)))
-stage_stands state moves s blocks old x (Turn side turn) y lines t r h =
+stage_stands state moves s blocks old x (Turn side turn) y lines t m r h =
     to_phase state s blocks old y _ (lines ++ turn_lines turn) r.after
     (subst (λ (q : RunPhase). StandsAt state s blocks old q y (lines ++ turn_lines turn)) (sym r.was)
     (⊎_elim (λ u. inl (untried_turn r u).0) (λ u. inr (tried_turn r u).0) (at_phase state s blocks old x lines Running r.was h)))
-stage_stands state moves s blocks old x Begin y lines t r h =
+stage_stands state moves s blocks old x Begin y lines t m r h =
     to_phase state s blocks old y _ (lines ++ lines_of s Begin) r.after
     (⊎_elim (λ u. begin r u) (λ u. let untried = r.due.untried in let tried = u.tried in absurd cc) (at_phase state s blocks old x lines Running r.was h))
-stage_stands state moves s blocks old x (Resume side copies) y lines t r h =
-    to_phase state s blocks old y _ (lines ++ lines_of s (Resume side copies)) r.after (inr (resume t r (at_phase state s blocks old x lines Suspended r.was h)).0)
-stage_stands state moves s blocks old x (GiveUp side copies) y lines t r h =
+stage_stands state moves s blocks old x (Resume side copies) y lines t m r h =
+    to_phase state s blocks old y _ (lines ++ lines_of s (Resume side copies)) r.after (inr (resume t (m refl) r (at_phase state s blocks old x lines Suspended r.was h)).0)
+stage_stands state moves s blocks old x (GiveUp side copies) y lines t m r h =
     to_phase state s blocks old y _ (lines ++ lines_of s (GiveUp side copies)) r.after (inr (give_up t r (at_phase state s blocks old x lines Suspended r.was h)).0)
-stage_stands state moves s blocks old x End y lines t r h =
+stage_stands state moves s blocks old x End y lines t m r h =
     to_phase state s blocks old y _ (lines ++ lines_of s End) r.after (end r (at_phase state s blocks old x lines Running r.was h))
 
-stages_stand : {M I : Type 0} (state : M → MediumState I) (moves : I → Step → Bool → I → Type 0) (s : Script) (blocks : Blocks) (old x : Snapshot M) (stages : List Stage) (y : Snapshot M) (lines : List Line) → Tells state s blocks old → Chain (IsStage state moves) x stages y →
+pub or_right : (a b : Bool) → b ≡ true → (a || b) ≡ true
+or_right true b is = refl
+or_right false b is = is
+
+stages_stand : {M I : Type 0} (state : M → MediumState I) (moves : I → Step → Bool → I → Type 0) (s : Script) (blocks : Blocks) (old x : Snapshot M) (stages : List Stage) (y : Snapshot M) (lines : List Line) {resumed : Bool} → Tells state s blocks resumed old → (have_resumed stages ≡ true → resumed ≡ true) → Chain (IsStage state moves) x stages y →
     StandsAt state s blocks old x.phase x lines → StandsAt state s blocks old y.phase y (lines ++ lines_in s stages)
-stages_stand {M} state moves s blocks old x [] y lines t c h =
+stages_stand {M} state moves s blocks old x [] y lines t m c h =
     subst (λ (z : Snapshot M). StandsAt state s blocks old z.phase z (lines ++ [])) (sym c) (subst (λ (ls : List Line). StandsAt state s blocks old x.phase x ls) (sym (append-nil lines)) h)
-stages_stand state moves s blocks old x (stage ∷ stages) y lines t c h =
+stages_stand state moves s blocks old x (stage ∷ stages) y lines t m c h =
     subst (λ (ls : List Line). StandsAt state s blocks old y.phase y ls) (append_assoc lines (lines_of s stage) (lines_in s stages))
-    (stages_stand state moves s blocks old c.0 stages y (lines ++ lines_of s stage) t c.2 (stage_stands state moves s blocks old x stage c.0 lines t c.1 h))
+    (stages_stand state moves s blocks old c.0 stages y (lines ++ lines_of s stage) t (λ later. m (or_right (resumes stage) (have_resumed stages) later)) c.2
+    (stage_stands state moves s blocks old x stage c.0 lines t (λ now. m (ap (λ (b : Bool). b || have_resumed stages) now)) c.1 h))
 
 -- from the start on
-pub run_stands : {M I : Type 0} (state : M → MediumState I) (moves : I → Step → Bool → I → Type 0) (s : Script) (blocks : Blocks) (old : Snapshot M) (stages : List Stage) (new : Snapshot M) → Tells state s blocks old → Chain (IsStage state moves) old stages new →
+pub run_stands : {M I : Type 0} (state : M → MediumState I) (moves : I → Step → Bool → I → Type 0) (s : Script) (blocks : Blocks) (old : Snapshot M) (stages : List Stage) (new : Snapshot M) {resumed : Bool} → Tells state s blocks resumed old → (have_resumed stages ≡ true → resumed ≡ true) → Chain (IsStage state moves) old stages new →
     StandsAt state s blocks old new.phase new (lines_in s stages)
-run_stands {M} state moves s blocks old stages new t c =
-    stages_stand state moves s blocks old old stages new [] t c (subst (λ (p : RunPhase). StandsAt state s blocks old p old []) (sym (ap (λ (z : Snapshot M). z.phase) t.start)) (refl, refl))
+run_stands {M} state moves s blocks old stages new t m c =
+    stages_stand state moves s blocks old old stages new [] t m c (subst (λ (p : RunPhase). StandsAt state s blocks old p old []) (sym (ap (λ (z : Snapshot M). z.phase) t.start)) (refl, refl))

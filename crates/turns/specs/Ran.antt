@@ -9,7 +9,7 @@ use Rattle.nvm_model.specs.Medium.{HaveSize, IsAt, MediumState}
 use Rattle.nvm_model.specs.declared.run.Side.{Side}
 use Rattle.nvm_model.specs.declared.run.Side.TheVariants.{Source, Destination}
 use Rattle.nvm_model.specs.Run.{IsStage, IsWritten, Snapshot, Stage, calls_at, lines_in, media_at}
-use Rattle.nvm_model.specs.Told.{HasRun, HasStopped, Tells, faults_of}
+use Rattle.nvm_model.specs.Told.{faults_of, HasRun, HasStopped, have_resumed, Tells}
 
 -- What a run did, from its start to its end or to where the sink failed: one list of stages, to which all of this belongs.
 pub record Ran {M I : Type 0} (state : M → MediumState I) (moves : I → Step → Bool → I → Type 0) (old : Snapshot M) (failed : Bool) (new : Snapshot M) : Type 0 where
@@ -25,5 +25,5 @@ pub record Ran {M I : Type 0} (state : M → MediumState I) (moves : I → Step 
   pub text : IsWritten old.task.script stages old.out.taken failed new.out.taken
   pub counted : RisesIf failed old.out.faults new.out.faults
   -- where the media told their blocks at the start
-  pub ended : failed ≡ false → (s : Script) (blocks : List (List ℕ)) → Tells state s blocks old → HasRun state s blocks old new (lines_in s stages)
-  pub stopped : failed ≡ true → (s : Script) (blocks : List (List ℕ)) → Tells state s blocks old → HasStopped state s blocks old new
+  pub ended : failed ≡ false → (s : Script) (blocks : List (List ℕ)) → Tells state s blocks (have_resumed stages) old → HasRun state s blocks old new (lines_in s stages)
+  pub stopped : failed ≡ true → (s : Script) (blocks : List (List ℕ)) → Tells state s blocks (have_resumed stages) old → HasStopped state s blocks old new

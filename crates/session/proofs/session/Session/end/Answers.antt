@@ -5,7 +5,7 @@ use Rattle.session.specs.Sides.{IsNext, IsRunning, SessionState}
 use Rattle.session.proofs.StageLemmas.{goes_end}
 use Rattle.session.proofs.session.Session.end.Goals as goal
 
-pub returns-in_err-write_lines-clause-went : goal.returns-in_err-write-clause-went
+pub returns-in_err-write_lines-clause-went : goal.returns-in_err-write_lines-clause-went
 returns-in_err-write_lines-clause-went g c =
     let p = err_from_is_err_and c.from_residual.result c.from_residual.ensures.1 in
     rw (p.1, ← c.self.view_is) λ other.
