@@ -1,8 +1,13 @@
 /*
- * nvmigrate: proved parts of an NVMe controller for C programs.
+ * nvmigrate: proved parts of an NVMe controller for C and C++ programs.
  *
  * Every call below is an export of crates/nvmigrate_c, whose contract is proved: docs/LIBRARIES.md says in a line
  * what each promises. Sections are those of NVM Express Base 2.1, by number or by name.
+ *
+ * What is the standard's and what isn't. Queue entries, their bytes and the rings are the standard's. Of host managed
+ * live migration the names are, and nothing else: the bytes of the admin commands (opcodes, selectors, the places of
+ * all numbers behind them), their command specific status codes, the image of a controller's state and the change
+ * entry are this project's own. Nothing of these goes to hardware, or is read from it.
  *
  * What a caller owes. The proofs take it for granted, and nothing tests it:
  *  - No pointer is null. Each points to as many elements as its parameter says, aligned as C aligns them; a pointer
@@ -13,9 +18,8 @@
  * Everything else is tested: any bytes, lengths, sizes, places and doorbell values get an answer, and a count above
  * what a call takes is refused before anything is read there. A call that answers another code than NVMIGRATE_OK
  * leaves what it would have written as it was, unless its comment says otherwise. The structs are plain numbers,
- * which a program may keep, copy and send as it likes; each call tests those that it is given. No call keeps anything
- * between calls, so any number of threads may make them at once. None but nvmigrate_judge allocates, or calls
- * anything but memcpy, memmove and memset.
+ * which a program may keep, copy and send as it likes. No call keeps anything between calls, so any number of threads
+ * may make them at once. None but nvmigrate_judge allocates, or calls anything but memcpy, memmove and memset.
  */
 #ifndef NVMIGRATE_H
 #define NVMIGRATE_H
@@ -27,12 +31,23 @@
 extern "C" {
 #endif
 
+/* The version of this header. While the major number is 0, a new minor one may change calls, structs and codes, and
+ * the bytes that are this project's own; a new patch changes none of them. From 1.0.0 on only a new major one does. */
+#define NVMIGRATE_VERSION_MAJOR 0
+#define NVMIGRATE_VERSION_MINOR 1
+#define NVMIGRATE_VERSION_PATCH 0
+#define NVMIGRATE_VERSION \
+    (NVMIGRATE_VERSION_MAJOR * 65536 + NVMIGRATE_VERSION_MINOR * 256 + NVMIGRATE_VERSION_PATCH)
+
+/* The version of the library that is linked, as NVMIGRATE_VERSION counts it. */
+uint32_t nvmigrate_version(void);
+
 /* What a call answers. */
 enum nvmigrate_code {
     NVMIGRATE_OK = 0,
-    NVMIGRATE_NONE = 1,         /* there is none: the ring is empty, or the image isn't whole */
+    NVMIGRATE_NONE = 1,         /* there is none: no entry waits, or the image isn't whole */
     NVMIGRATE_FULL = 2,         /* no place is free */
-    NVMIGRATE_BAD_DOORBELL = 3, /* the ring doesn't take this place */
+    NVMIGRATE_BAD_DOORBELL = 3, /* the ring or the queue doesn't take this place */
     NVMIGRATE_BAD_RING = 4,     /* the numbers of the struct aren't those of a ring */
     NVMIGRATE_BAD_FIELD = 5,    /* a number is out of its range */
     NVMIGRATE_BAD_OPCODE = 6,   /* byte 0 is the opcode of no admin command */
@@ -113,10 +128,10 @@ void nvmigrate_cqe_from_bytes(const uint8_t bytes[16], struct nvmigrate_cqe *out
 
 /* A queue stands in one page of 4,096 bytes of guest memory: a submission queue of 2 to 64 places of 64 bytes, a
  * completion queue of 2 to 256 places of 16. It is empty where head is tail, and full where the place after tail is
- * head (Queues: Empty Queue, Full Queue). Head and tail are below the size, and a phase is 0 or 1: other numbers
- * are NVMIGRATE_BAD_RING, which each call tells before anything else. */
+ * head (Queues: Empty Queue, Full Queue). Head and tail are below the size, and a phase is 0 or 1: each call that reads
+ * an end tells other numbers of it by NVMIGRATE_BAD_RING, before anything else. */
 
-/* The controller's end of a submission queue, or the guest's, whose head is the one that it learnt last. */
+/* The controller's end of a submission queue: its tail is the one that the doorbell was rung with last. */
 struct nvmigrate_sq {
     uint16_t size;
     uint16_t head;
@@ -131,6 +146,13 @@ struct nvmigrate_cq {
     uint8_t phase;
 };
 
+/* The guest's end of a submission queue: its head is the one that it learnt last. */
+struct nvmigrate_guest_sq {
+    uint16_t size;
+    uint16_t head;
+    uint16_t tail;
+};
+
 /* The guest's end of a completion queue: its place, and the phase tag of the next entry. */
 struct nvmigrate_guest_cq {
     uint16_t size;
@@ -141,6 +163,7 @@ struct nvmigrate_guest_cq {
 /* Ends of an empty queue over a zeroed page. NVMIGRATE_BAD_RING exactly where the size is out of its range. */
 uint32_t nvmigrate_sq_new(uint16_t size, struct nvmigrate_sq *out);
 uint32_t nvmigrate_cq_new(uint16_t size, struct nvmigrate_cq *out);
+uint32_t nvmigrate_guest_sq_new(uint16_t size, struct nvmigrate_guest_sq *out);
 uint32_t nvmigrate_guest_cq_new(uint16_t size, struct nvmigrate_guest_cq *out);
 
 /* Controller: the guest rang the tail doorbell (Submission Queue Tail Doorbell). NVMIGRATE_BAD_DOORBELL
@@ -165,11 +188,12 @@ uint32_t nvmigrate_cq_set_head(struct nvmigrate_cq *cq, uint16_t value);
 
 /* Guest: writes an entry behind the others. sq->tail is then what the doorbell is rung with. NVMIGRATE_FULL exactly
  * where the place after the tail is the head that was learnt last. */
-uint32_t nvmigrate_guest_sq_submit(struct nvmigrate_sq *sq, uint8_t page[4096], const struct nvmigrate_sqe *entry);
+uint32_t nvmigrate_guest_sq_submit(struct nvmigrate_guest_sq *sq, uint8_t page[4096],
+                                   const struct nvmigrate_sqe *entry);
 
 /* Guest: learns the controller's head, as a completion tells it (4.2, SQ Head Pointer). NVMIGRATE_BAD_DOORBELL
  * exactly where it is the size or more. */
-uint32_t nvmigrate_guest_sq_learn(struct nvmigrate_sq *sq, uint16_t head);
+uint32_t nvmigrate_guest_sq_learn(struct nvmigrate_guest_sq *sq, uint16_t head);
 
 /* Guest: takes the oldest completion. cq->head is then what the doorbell is rung with. NVMIGRATE_NONE exactly where
  * the cell at its place has the phase tag of the pass before. */
@@ -177,8 +201,9 @@ uint32_t nvmigrate_guest_cq_reap(struct nvmigrate_guest_cq *cq, const uint8_t pa
 
 /* ---- Admin commands of host managed live migration --------------------------------------------------------------- */
 
-/* What a command asks for (Track Send, Track Receive, Migration Send, Migration Receive and Controller Data
- * Queue), and which numbers it has. The others are ignored, and read as 0. */
+/* What a command asks for, and which numbers it has; the others are ignored, and read as 0. The commands are Track
+ * Send, Track Receive, Migration Send, Migration Receive and Controller Data Queue in name alone: their bytes are this
+ * project's own (docs/FORMATS.md). */
 enum nvmigrate_what {
     NVMIGRATE_LOG_USER_DATA = 0,  /* start 0 or 1, queue */
     NVMIGRATE_TRACK_MEMORY = 1,   /* start 0 or 1 */
@@ -214,15 +239,16 @@ uint32_t nvmigrate_admin_from_bytes(const uint8_t bytes[64], struct nvmigrate_ad
 
 /* ---- A controller's state as bytes ------------------------------------------------------------------------------- */
 
+/* An image of a controller's state is this project's own (docs/FORMATS.md has its layout). */
+
 /* The controller's ends of a queue pair. */
 struct nvmigrate_pair {
     struct nvmigrate_sq sq;
     struct nvmigrate_cq cq;
 };
 
-/* An image that comes in parts (Migration Send, Set Controller State; docs/FORMATS.md has its layout): how
- * many of its bytes were fed, of how many queue pairs it is, 1 to 8, and the bytes. Each call below tests that an
- * image begins so, and else answers NVMIGRATE_BAD_PARTS. */
+/* An image that comes in parts: how many of its bytes were fed, of how many queue pairs it is, 1 to 8, and the bytes.
+ * parts_feed and parts_whole test that an image begins so, and else answer NVMIGRATE_BAD_PARTS, before anything else. */
 struct nvmigrate_parts {
     uint32_t fed;
     uint8_t lanes;
@@ -235,7 +261,8 @@ uint32_t nvmigrate_parts_new(uint8_t lanes, struct nvmigrate_parts *out);
 /* Takes the part of the image that begins at byte `offset`: where the bytes fed end, or at 0, where it begins anew.
  * In this order: NVMIGRATE_BAD_SEQUENCE exactly where it begins elsewhere; NVMIGRATE_TOO_LONG exactly where it
  * passes the image's end; NVMIGRATE_BAD_IMAGE exactly where no image goes on with it, and *place is the first such
- * byte. After the last two the bytes fed before stay, but none where the part began at 0. */
+ * byte. A part that is refused leaves the struct as it was, but one that begins at 0 leaves no byte fed: then `fed`
+ * is 0. */
 uint32_t nvmigrate_parts_feed(struct nvmigrate_parts *parts, uint32_t offset, const uint8_t *part, size_t count,
                               uint32_t *place);
 
@@ -243,19 +270,26 @@ uint32_t nvmigrate_parts_feed(struct nvmigrate_parts *parts, uint32_t offset, co
  * isn't whole. */
 uint32_t nvmigrate_parts_whole(const struct nvmigrate_parts *parts, struct nvmigrate_pair out[8]);
 
-/* Writes the image of these pairs' state into the first bytes of `out`, and how many they are, 8 and 32 for each
- * pair, into *length. The other bytes stay. NVMIGRATE_TOO_LONG exactly where there are more than 8, and else
- * NVMIGRATE_BAD_RING exactly where an end of one is no ring. */
+/* Writes the image of the state of these pairs, 1 to 8, into the first bytes of `out`, and how many they are, 8 and 32
+ * for each pair, into *length. The other bytes stay. NVMIGRATE_BAD_FIELD exactly where there is no pair,
+ * NVMIGRATE_TOO_LONG exactly where there are more than 8, and else NVMIGRATE_BAD_RING exactly where an end of one is
+ * no ring. */
 uint32_t nvmigrate_image_encode(const struct nvmigrate_pair *pairs, size_t count, uint8_t out[264], uint32_t *length);
 
 /* ---- A user data migration queue --------------------------------------------------------------------------------- */
 
-/* The controller tells the host in it which blocks were written (Controller Data Queue; docs/FORMATS.md has an
- * entry's 32 bytes). Its cells, 2 to 65,536 of 32 bytes, are the caller's, who passes them to each call. The places
- * of the oldest entry that isn't taken and of the next one, how many lie between, the phase tag of the next one,
- * whether an entry found no free cell, and whether the queue was created and isn't deleted. Numbers that aren't
- * those of a queue of so many cells are NVMIGRATE_BAD_QUEUE, and a queue that isn't live is NVMIGRATE_NOT_LIVE,
- * which each call tells before anything else. A struct of zeroes is one that isn't live. */
+/* The controller tells the host in it which blocks were written (Controller Data Queue). Entries and the rule of the
+ * ring are this project's own (docs/FORMATS.md). The cells, 2 to 65,536, are the caller's, who passes them to each
+ * call that reads or writes one. */
+struct nvmigrate_cell {
+    uint8_t bytes[32];
+};
+
+/* The places of the oldest entry that isn't taken and of the next one, how many entries wait from the one to the
+ * other, the phase tag of the next one, whether an entry found no free cell, and whether the queue was created and
+ * isn't deleted. In a queue of so many cells head and next are below their number, waiting is at most it, next is
+ * head plus waiting modulo it, and the others are 0 or 1. queue_post, queue_take and queue_set_head tell other numbers
+ * by NVMIGRATE_BAD_QUEUE, and then a queue that isn't live by NVMIGRATE_NOT_LIVE, both before anything else. */
 struct nvmigrate_queue {
     uint32_t head;
     uint32_t next;
@@ -271,37 +305,51 @@ struct nvmigrate_change {
     uint32_t count;
 };
 
-/* The 32 bytes of an entry with a phase tag. NVMIGRATE_BAD_FIELD exactly where that is neither 0 nor 1. */
+/* The 32 bytes of an entry with a phase tag. NVMIGRATE_BAD_FIELD exactly where that is neither 0 nor 1, or the change
+ * names other blocks than it may. */
 uint32_t nvmigrate_change_to_bytes(const struct nvmigrate_change *change, uint8_t phase, uint8_t out[32]);
 
-/* The blocks that an entry of 32 bytes names, in range or not. */
-void nvmigrate_change_from_bytes(const uint8_t bytes[32], struct nvmigrate_change *out);
+/* The blocks and the phase tag of an entry of 32 bytes. NVMIGRATE_BAD_FIELD exactly where the bytes are no entry:
+ * those of another namespace or kind, with a byte that isn't zero where it has to be, or with a number out of its
+ * range. */
+uint32_t nvmigrate_change_from_bytes(const uint8_t bytes[32], struct nvmigrate_change *out, uint8_t *phase);
 
-/* A new queue with zeroed cells and no mark. NVMIGRATE_BAD_QUEUE exactly where `count` isn't 2 to 65,536 or `live`
- * is neither 0 nor 1, and else NVMIGRATE_LIVE exactly where it is 1. Of `queue` nothing else is read. */
-uint32_t nvmigrate_queue_create(struct nvmigrate_queue *queue, uint8_t (*cells)[32], size_t count);
+/* Makes a struct, whatever stands in it, that of a queue that isn't live. */
+void nvmigrate_queue_init(struct nvmigrate_queue *queue);
 
-/* The queue isn't live any more. */
+/* A new queue with zeroed cells and no mark. NVMIGRATE_BAD_QUEUE exactly where there aren't 2 to 65,536 cells or
+ * `live` is neither 0 nor 1, and else NVMIGRATE_LIVE exactly where it is 1. Of `queue` nothing else is read. */
+uint32_t nvmigrate_queue_create(struct nvmigrate_queue *queue, struct nvmigrate_cell *cells, size_t cell_count);
+
+/* The queue isn't live any more. NVMIGRATE_BAD_QUEUE exactly where `live` is neither 0 nor 1, NVMIGRATE_NOT_LIVE
+ * exactly where it is 0. Nothing else is read or written. */
 uint32_t nvmigrate_queue_delete(struct nvmigrate_queue *queue);
 
 /* Posts a change behind the others. NVMIGRATE_BAD_FIELD exactly where it names other blocks than it may; else
  * NVMIGRATE_FULL exactly where the mark is up or no cell is free: then the mark is up, and nothing was posted. */
-uint32_t nvmigrate_queue_post(struct nvmigrate_queue *queue, uint8_t (*cells)[32], size_t count,
+uint32_t nvmigrate_queue_post(struct nvmigrate_queue *queue, struct nvmigrate_cell *cells, size_t cell_count,
                               const struct nvmigrate_change *change);
 
-/* Takes the oldest change that isn't taken. NVMIGRATE_NONE exactly where none waits. */
-uint32_t nvmigrate_queue_take(struct nvmigrate_queue *queue, const uint8_t (*cells)[32], size_t count,
+/* Takes the oldest change that isn't taken: the one that was posted into its cell, where nobody else wrote there.
+ * NVMIGRATE_NONE exactly where none waits. */
+uint32_t nvmigrate_queue_take(struct nvmigrate_queue *queue, const struct nvmigrate_cell *cells, size_t cell_count,
                               struct nvmigrate_change *out);
 
 /* Takes all changes before a place. NVMIGRATE_BAD_DOORBELL exactly where it isn't one from the head to the next
  * place of posting, in ring order. */
-uint32_t nvmigrate_queue_set_head(struct nvmigrate_queue *queue, const uint8_t (*cells)[32], size_t count,
+uint32_t nvmigrate_queue_set_head(struct nvmigrate_queue *queue, const struct nvmigrate_cell *cells, size_t cell_count,
                                   uint32_t value);
 
 /* ---- Transcripts are judged -------------------------------------------------------------------------------------- */
 
-/* Where a text is wrong: the line, counted from 1, and of a script's line why: 0 its form, 1 a number that is out
- * of its range, 2 that it has no line feed or isn't there. */
+/* What is wrong with a script's line. */
+enum nvmigrate_why {
+    NVMIGRATE_WHY_FORM = 0,  /* its form */
+    NVMIGRATE_WHY_RANGE = 1, /* a number that is out of its range */
+    NVMIGRATE_WHY_CUT = 2    /* it has no line feed, or isn't there */
+};
+
+/* Where a text is wrong: the line, counted from 1, and of a script's line why. Of a transcript's line `why` is 0. */
 struct nvmigrate_wrong_line {
     uint32_t line;
     uint32_t why;
@@ -320,13 +368,14 @@ uint32_t nvmigrate_judge(const uint8_t *text, size_t count, struct nvmigrate_wro
 /* ---- Layout ------------------------------------------------------------------------------------------------------ */
 
 /* How the library sees the structs, to be compared with what the C compiler sees (tests/c/layout.c): the size of a
- * struct, by its place in this list, sqe, cqe, sq, cq, guest_cq, admin, pair, parts, wrong_line, change, queue, and
- * 0 for another place; and the fields of one in order, those of a pair being its two ends', and of the bytes of
+ * struct, by its place in this list, sqe, cqe, sq, cq, guest_sq, guest_cq, admin, pair, parts, wrong_line, change,
+ * queue, and 0 for another place; and the fields of one in order, those of a pair being its two ends', and of the bytes of
  * parts the first and the last. */
 size_t nvmigrate_layout_size(uint32_t place);
 void nvmigrate_layout_sqe(const struct nvmigrate_sqe *entry, uint64_t out[15]);
 void nvmigrate_layout_cqe(const struct nvmigrate_cqe *entry, uint64_t out[11]);
 void nvmigrate_layout_pair(const struct nvmigrate_pair *pair, uint64_t out[7]);
+void nvmigrate_layout_guest_sq(const struct nvmigrate_guest_sq *sq, uint64_t out[3]);
 void nvmigrate_layout_guest_cq(const struct nvmigrate_guest_cq *cq, uint64_t out[3]);
 void nvmigrate_layout_admin(const struct nvmigrate_admin *command, uint64_t out[8]);
 void nvmigrate_layout_parts(const struct nvmigrate_parts *parts, uint64_t out[4]);

@@ -23,6 +23,10 @@ static uint8_t *read_whole(FILE *from, size_t *size) {
     return NULL;
 }
 
+static const char *why(uint32_t why) {
+    return why == NVMIGRATE_WHY_FORM ? "form" : why == NVMIGRATE_WHY_RANGE ? "range" : "cut";
+}
+
 static int tell(uint32_t code, struct nvmigrate_wrong_line wrong) {
     switch (code) {
     case NVMIGRATE_OK:
@@ -38,7 +42,7 @@ static int tell(uint32_t code, struct nvmigrate_wrong_line wrong) {
         printf("no %u complete\n", wrong.line);
         return 1;
     case NVMIGRATE_BAD_SCRIPT:
-        printf("no script: line %u %s\n", wrong.line, wrong.why == 0 ? "form" : wrong.why == 1 ? "range" : "cut");
+        printf("no script: line %u %s\n", wrong.line, why(wrong.why));
         return 2;
     default:
         fprintf(stderr, "judge: code %u\n", code);

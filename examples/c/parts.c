@@ -20,10 +20,11 @@ static void entries(void) {
 
 /* Three commands go round queues of two places: each is submitted, fetched, completed and reaped. */
 static void rounds(void) {
-    struct nvmigrate_sq guest_sq, sq;
+    struct nvmigrate_guest_sq guest_sq;
+    struct nvmigrate_sq sq;
     struct nvmigrate_cq cq;
     struct nvmigrate_guest_cq guest_cq;
-    nvmigrate_sq_new(2, &guest_sq);
+    nvmigrate_guest_sq_new(2, &guest_sq);
     nvmigrate_sq_new(2, &sq);
     nvmigrate_cq_new(2, &cq);
     nvmigrate_guest_cq_new(2, &guest_cq);

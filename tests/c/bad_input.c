@@ -88,8 +88,14 @@ static void kept(uint32_t code, const void *old, const void *new, size_t size, c
 static uint8_t page[4096], bytes[264];
 
 static void rings(void) {
-    union { struct nvmigrate_sq sq; struct nvmigrate_cq cq; struct nvmigrate_guest_cq guest_cq; } old;
+    union {
+        struct nvmigrate_sq sq;
+        struct nvmigrate_cq cq;
+        struct nvmigrate_guest_sq guest_sq;
+        struct nvmigrate_guest_cq guest_cq;
+    } old;
     struct nvmigrate_sq sq;
+    struct nvmigrate_guest_sq guest_sq;
     struct nvmigrate_cq cq;
     struct nvmigrate_guest_cq guest_cq;
     struct nvmigrate_sqe sqe;
@@ -98,18 +104,20 @@ static void rings(void) {
     fill(page, sizeof page);
     fill(&sq, sizeof sq);
     fill(&cq, sizeof cq);
+    fill(&guest_sq, sizeof guest_sq);
     fill(&guest_cq, sizeof guest_cq);
     fill(&sqe, sizeof sqe);
     fill(&cqe, sizeof cqe);
     if (word() % 4) {
         sq.size = word() % 63 + 2, sq.head = word() % sq.size, sq.tail = word() % sq.size;
         cq.size = word() % 255 + 2, cq.head = word() % cq.size, cq.tail = word() % cq.size, cq.phase = word() % 2;
+        guest_sq.size = word() % 63 + 2, guest_sq.head = word() % guest_sq.size, guest_sq.tail = word() % guest_sq.size;
         guest_cq.size = word() % 255 + 2, guest_cq.head = word() % guest_cq.size, guest_cq.phase = word() % 2;
     }
     CALL(nvmigrate_sq_set_tail, sq, &sq, number());
     CALL(nvmigrate_sq_fetch, sq, &sq, page, &sqe);
-    CALL(nvmigrate_guest_sq_submit, sq, &sq, page, &sqe);
-    CALL(nvmigrate_guest_sq_learn, sq, &sq, number());
+    CALL(nvmigrate_guest_sq_submit, guest_sq, &guest_sq, page, &sqe);
+    CALL(nvmigrate_guest_sq_learn, guest_sq, &guest_sq, number());
     CALL(nvmigrate_cq_free, cq, &cq, &count);
     CALL(nvmigrate_cq_post, cq, &cq, page, &cqe);
     cqe.phase %= 2, cqe.sct %= 8, cqe.crd %= 4, cqe.more %= 2, cqe.dnr %= 2;
@@ -118,6 +126,7 @@ static void rings(void) {
     CALL(nvmigrate_guest_cq_reap, guest_cq, &guest_cq, page, &cqe);
     CALL(nvmigrate_sq_new, sq, number(), &sq);
     CALL(nvmigrate_cq_new, cq, number(), &cq);
+    CALL(nvmigrate_guest_sq_new, guest_sq, number(), &guest_sq);
     CALL(nvmigrate_guest_cq_new, guest_cq, number(), &guest_cq);
 }
 
@@ -183,13 +192,16 @@ static void images(void) {
 }
 
 static void queues(void) {
-    static uint8_t cells[65537][32];
+    static struct nvmigrate_cell cells[65537];
     struct nvmigrate_queue queue, old;
     struct nvmigrate_change change = {number(), number()};
+    uint8_t phase = 0;
     size_t count = word() % 4 ? word() % 9 : number() & 0xffff;
     fill(&queue, sizeof queue);
-    CALL(nvmigrate_queue_take, queue, &queue, (const uint8_t(*)[32])cells, count, &change);
+    CALL(nvmigrate_queue_take, queue, &queue, cells, count, &change);
     CALL(nvmigrate_queue_delete, queue, &queue);
+    nvmigrate_queue_init(&queue);
+    answered(queue.live != 0 ? 99 : NVMIGRATE_OK, "queue_init");
     queue.live = word() % 2;
     CALL(nvmigrate_queue_create, queue, &queue, cells, SIZE_MAX);
     CALL(nvmigrate_queue_create, queue, &queue, cells, 65537);
@@ -199,14 +211,29 @@ static void queues(void) {
         change.count = word() % 8 ? word() % 64 + 1 : number();
         answered(nvmigrate_queue_post(&queue, cells, count, &change), "queue_post");
         if (word() % 2)
-            CALL(nvmigrate_queue_take, queue, &queue, (const uint8_t(*)[32])cells, count, &change);
+            CALL(nvmigrate_queue_take, queue, &queue, cells, count, &change);
         uint32_t head = word() % 2 ? word() % 9 : number();
-        CALL(nvmigrate_queue_set_head, queue, &queue, (const uint8_t(*)[32])cells, count, head);
+        CALL(nvmigrate_queue_set_head, queue, &queue, cells, count, head);
     }
-    CALL(nvmigrate_queue_set_head, queue, &queue, (const uint8_t(*)[32])cells, SIZE_MAX, number());
+    CALL(nvmigrate_queue_set_head, queue, &queue, cells, SIZE_MAX, number());
+    if (count > 0)
+        CALL(nvmigrate_change_from_bytes, change, cells[word() % count].bytes, &change, &phase);
     CALL(nvmigrate_queue_delete, queue, &queue);
-    answered(nvmigrate_change_to_bytes(&change, number(), cells[0]), "change_to_bytes");
-    nvmigrate_change_from_bytes(cells[1], &change);
+}
+
+/* A change is read back from its bytes, and not where one bit of them turned, but for that of the phase tag. */
+static void changes(void) {
+    struct nvmigrate_change change = {word() % 8 ? word() % 131072 : number(), word() % 8 ? word() % 64 + 1 : number()};
+    struct nvmigrate_change old, again = {0, 0};
+    uint8_t entry[32], phase = 0, tag = word() % 8 ? word() % 2 : number();
+    uint32_t code = nvmigrate_change_to_bytes(&change, tag, entry);
+    answered(code, "change_to_bytes");
+    if (code != NVMIGRATE_OK)
+        return;
+    answered(nvmigrate_change_from_bytes(entry, &again, &phase) != NVMIGRATE_OK ? 99 : NVMIGRATE_OK, "read back");
+    answered(memcmp(&change, &again, sizeof change) != 0 || phase != tag ? 99 : NVMIGRATE_OK, "read back");
+    entry[word() % 32] ^= 1u << word() % 8;
+    CALL(nvmigrate_change_from_bytes, again, entry, &again, &phase);
 }
 
 #define SCRIPT                                                                                  \
@@ -260,6 +287,7 @@ int main(int argc, char **argv) {
         entries();
         images();
         queues();
+        changes();
         texts();
     }
     memory();

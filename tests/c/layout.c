@@ -37,15 +37,18 @@ static void sizes(void) {
     SIZE(1, cqe);
     SIZE(2, sq);
     SIZE(3, cq);
-    SIZE(4, guest_cq);
-    SIZE(5, admin);
-    SIZE(6, pair);
-    SIZE(7, parts);
-    SIZE(8, wrong_line);
-    SIZE(9, change);
-    SIZE(10, queue);
-    check("size of another", nvmigrate_layout_size(11), 0);
+    SIZE(4, guest_sq);
+    SIZE(5, guest_cq);
+    SIZE(6, admin);
+    SIZE(7, pair);
+    SIZE(8, parts);
+    SIZE(9, wrong_line);
+    SIZE(10, change);
+    SIZE(11, queue);
+    check("size of another", nvmigrate_layout_size(12), 0);
     check("size of another", nvmigrate_layout_size(UINT32_MAX), 0);
+    check("size of a cell", 32, sizeof(struct nvmigrate_cell));
+    check("version", nvmigrate_version(), NVMIGRATE_VERSION);
 }
 
 static void entries(void) {
@@ -73,6 +76,12 @@ static void rings(void) {
         nvmigrate_layout_pair(&x, out);
         FIELD(pair, 0, sq.size), FIELD(pair, 1, sq.head), FIELD(pair, 2, sq.tail);
         FIELD(pair, 3, cq.size), FIELD(pair, 4, cq.head), FIELD(pair, 5, cq.tail), FIELD(pair, 6, cq.phase);
+    }
+    {
+        struct nvmigrate_guest_sq x;
+        fill(&x, sizeof x);
+        nvmigrate_layout_guest_sq(&x, out);
+        FIELD(guest_sq, 0, size), FIELD(guest_sq, 1, head), FIELD(guest_sq, 2, tail);
     }
     struct nvmigrate_guest_cq x;
     fill(&x, sizeof x);

@@ -62,7 +62,23 @@ fn goes_round(rt: &impl Abort, queue: &mut DataQueue, first: u32)
 #[test]
 fn an_entry_has_its_bytes(rt: HostRuntime) {
     assert!(&rt; change(60).to_bytes(true) == BLOCK_60);
-    assert!(&rt; Change::from_bytes(&BLOCK_60) == change(60));
+    assert!(&rt; Change::parse(&BLOCK_60) == Some((change(60), true)));
+}
+
+/// A byte of an entry that has to be zero isn't, and each of the numbers is out of its range.
+#[test]
+fn no_entry_is_told(rt: HostRuntime) {
+    for place in [4usize, 15, 21, 30] {
+        let mut bytes = BLOCK_60;
+        bytes[place] = 1;
+        assert!(&rt; Change::parse(&bytes) == None);
+    }
+    for (place, byte) in [(0usize, 2u8), (10, 2), (16, 0), (16, 65), (20, 2), (31, 2)] {
+        let mut bytes = BLOCK_60;
+        bytes[place] = byte;
+        assert!(&rt; Change::parse(&bytes) == None);
+    }
+    assert!(&rt; change(60).is_in_range());
 }
 
 /// Two passes and a bit: each entry is taken as it was posted, and the phase tag turns over.

@@ -1,4 +1,4 @@
-use Rattle.std.specs.Prelude.{ℕ, ◌<◌, ◌≤◌, List}
+use Rattle.std.specs.Prelude.{◌≡◌, ℕ, ◌+◌, ◌%◌, ◌<◌, ◌≤◌, List}
 use Rattle.data_queue.specs.declared.places.Places.{Places}
 use Rattle.data_queue.specs.Log.{QueueState}
 
@@ -14,10 +14,11 @@ queue_of p cells = record {
   live = p.live;
 }
 
--- the places of a queue of so many cells
+-- the places of a queue of so many cells, which agree
 pub record ArePlaces (count : ℕ) (p : Places) : Type 0 where
   pub some : 2 ≤ count
   pub few : count ≤ 65536
   pub head : p.head < count
   pub next : p.next < count
   pub waiting : p.waiting ≤ count
+  pub agree : p.next ≡ (p.head + p.waiting) % count

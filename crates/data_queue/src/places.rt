@@ -1,8 +1,8 @@
 // A queue whose cells are lent to each call.
-ghost use Rattle.std.specs.Prelude.{◌≡◌, ◌+◌, ◌<◌, ◌≤◌, ◌==◌, ◌&&◌, [], ℕ, List, OnErr, OnOk, cond, false, is_err, is_none, is_ok, length, nat_le, nat_lt, not, replicate, slice_get, slice_index_or, Some, true};
+ghost use Rattle.std.specs.Prelude.{◌≡◌, ◌+◌, ◌<◌, ◌≤◌, ◌==◌, ◌&&◌, [], ℕ, List, IfErr, OnErr, OnOk, cond, false, is_err, is_none, is_ok, length, nat_le, nat_lt, not, replicate, slice_get, slice_index_or, Some, true};
 ghost use Rattle.data_queue.specs.declared.change.Change.{Change};
-ghost use Rattle.data_queue.specs.Change.{IsChange};
-ghost use Rattle.data_queue.specs.Log.{IsLog, Posted, Took, is_lost};
+ghost use Rattle.data_queue.specs.Change.{IsChange, change_of};
+ghost use Rattle.data_queue.specs.Log.{IsLog, Posted, Takes, TakesBefore, is_head, is_lost};
 ghost use Rattle.data_queue.specs.Places.{ArePlaces, queue_of};
 ghost use Rattle.nvm_model.specs.Ring.{places_between};
 
@@ -86,9 +86,7 @@ impl Places {
         requires places { ArePlaces (length cells.now) self.old }
         requires live { self.old.live ≡ true }
         ensures none { is_none result ≡ (self.old.waiting == 0) }
-        ensures kept { (self.new.marked ≡ self.old.marked) × (self.new.live ≡ true) }
-        ensures taken { (posted : List Change) (taken : ℕ) → IsLog (queue_of self.old cells.now) posted taken
-            → Took result posted taken (queue_of self.old cells.now) (queue_of self.new cells.now) }
+        ensures taken { Takes result (queue_of self.old cells.now) (queue_of self.new cells.now) }
         ensures sound { ArePlaces (length cells.now) self.new }
     {
         if self.waiting == 0 {
@@ -109,37 +107,40 @@ impl Places {
     pub fn set_head(&mut self, cells: &[[u8; 32]], value: u32) -> Result<(), BadHead>
         requires places { ArePlaces (length cells.now) self.old }
         requires live { self.old.live ≡ true }
-        ensures accepted { is_ok result ≡ (nat_lt value (length cells.now)
-            && nat_le (places_between (length cells.now) self.old.head value) self.old.waiting) }
+        ensures accepted { is_ok result ≡ is_head value (queue_of self.old cells.now) }
         ensures refused { OnErr result (self.new ≡ self.old) }
-        ensures kept { (self.new.marked ≡ self.old.marked) × (self.new.live ≡ true) }
-        ensures taken { OnOk result ((posted : List Change) (taken : ℕ)
-            → IsLog (queue_of self.old cells.now) posted taken → IsLog (queue_of self.new cells.now) posted
-            (taken + places_between (length cells.now) self.old.head value)) }
+        ensures told { IfErr result (λ e. e.value ≡ value) }
+        ensures taken { OnOk result (TakesBefore value (queue_of self.old cells.now) (queue_of self.new cells.now)) }
         ensures sound { ArePlaces (length cells.now) self.new }
     {
         let size = cells.len() as u32;
-        if value >= size {
+        if value >= size || between(size, self.head, value) > self.waiting {
             return Err(BadHead { value });
         }
-        let count = (value + size - self.head) % size;
-        if count > self.waiting {
-            return Err(BadHead { value });
-        }
+        self.waiting -= between(size, self.head, value);
         self.head = value;
-        self.waiting -= count;
         Ok(())
     }
+}
+
+/// How many places lie from one to the other, in ring order.
+fn between(size: u32, head: u32, value: u32) -> u32
+    requires size { size ≤ 65536 }
+    requires head { head < size }
+    requires value { value < size }
+    ensures { result ≡ places_between size head value }
+{
+    (value + size - head) % size
 }
 
 /// The oldest entry that isn't taken.
 fn oldest(places: Places, cells: &[[u8; 32]]) -> Change
     requires places { ArePlaces (length cells.now) places }
-    requires some { 0 < places.waiting }
-    ensures { (posted : List Change) (taken : ℕ) → IsLog (queue_of places cells.now) posted taken
-        → slice_get posted taken ≡ Some result }
+    ensures cell { result ≡ change_of (slice_index_or cells.now places.head []) }
+    ensures log { 0 < places.waiting → (posted : List Change) (taken : ℕ)
+        → IsLog (queue_of places cells.now) posted taken → slice_get posted taken ≡ Some result }
 {
-    Change::from_bytes(&cells[places.head as usize])
+    Change::of_bytes(&cells[places.head as usize])
 }
 
 /// The phase tag turns over where a pass begins.

@@ -1,8 +1,6 @@
-ghost use Rattle.std.specs.Prelude.{◌≡◌, ◌+◌, ◌<◌, ◌≤◌, ◌==◌, ◌&&◌, [], ℕ, List, IfOk, OnErr, OnOk, false, is_err, is_none, is_ok, length, nat_le, nat_lt, not, slice_index_or, true};
-ghost use Rattle.data_queue.specs.declared.change.Change.{Change};
+ghost use Rattle.std.specs.Prelude.{◌≡◌, ◌<◌, ◌≤◌, ◌==◌, [], IfErr, IfOk, OnErr, OnOk, false, is_err, is_none, is_ok, length, not, slice_index_or, true};
 ghost use Rattle.data_queue.specs.Change.{IsChange};
-ghost use Rattle.data_queue.specs.Log.{IsLog, Posted, Took, is_lost};
-ghost use Rattle.nvm_model.specs.Ring.{places_between};
+ghost use Rattle.data_queue.specs.Log.{HasLog, IsLog, Posted, Takes, TakesBefore, is_head, is_lost};
 
 use crate::{Change, Places};
 use mig_base::OutOfMemory;
@@ -13,7 +11,7 @@ use std::marker::Model;
 #[derive(Clone, Copy, Debug, PartialEq, Eq)]
 pub struct Full;
 
-/// A head that isn't a place from the head to the next place of posting.
+/// The value isn't a place from the head to the next place of posting.
 #[derive(Clone, Copy, Debug, PartialEq, Eq)]
 pub struct BadHead {
     pub value: u32,
@@ -27,15 +25,17 @@ pub struct DataQueue {
 }
 
 impl Model for DataQueue {
-    ghost use Rattle.std.specs.Prelude.{length};
-    ghost use Rattle.data_queue.specs.Log.{QueueState};
+    ghost use Rattle.std.specs.Prelude.{◌≡◌, length, true};
+    ghost use Rattle.data_queue.specs.Log.{HasLog, QueueState};
     ghost use Rattle.data_queue.specs.Places.{ArePlaces, queue_of};
 
     ghost Value = { QueueState };
 
     ghost view = { λ q. queue_of q.places q.cells.items };
 
-    ghost invariant = { λ q. ArePlaces (length q.cells.items) q.places };
+    // A live queue stands for a list of changes.
+    ghost invariant = { λ q. ArePlaces (length q.cells.items) q.places
+        × (q.places.live ≡ true → HasLog (queue_of q.places q.cells.items)) };
 }
 
 impl DataQueue {
@@ -47,7 +47,7 @@ impl DataQueue {
     pub fn make(alloc: Global, cells: u32) -> Result<DataQueue, OutOfMemory>
         requires { (2 ≤ cells) × (cells ≤ 65536) }
         ensures cells { IfOk result (λ q. length q.cells ≡ cells) }
-        ensures live { IfOk result (λ q. q.live ≡ false) }
+        ensures new { IfOk result (λ q. (q.live ≡ false) × (q.marked ≡ false)) }
     {
         let mut list = Vec::with_capacity(alloc, cells as usize)?;
         for _ in 0..cells {
@@ -59,9 +59,10 @@ impl DataQueue {
         })
     }
 
-    /// Whether the queue was created and isn't deleted.
+    /// Whether the queue was created and isn't deleted. A live queue stands for the changes that were posted since.
     pub fn live(&self) -> bool
-        ensures { result ≡ self.now.live }
+        ensures value { result ≡ self.now.live }
+        ensures log { result ≡ true → HasLog self.now }
     {
         self.places.live
     }
@@ -124,8 +125,7 @@ impl DataQueue {
     pub fn take(&mut self) -> Option<Change>
         requires live { self.old.live ≡ true }
         ensures none { is_none result ≡ (self.old.waiting == 0) }
-        ensures kept { (self.new.marked ≡ self.old.marked) × (self.new.live ≡ true) × (self.new.cells ≡ self.old.cells) }
-        ensures taken { (posted : List Change) (taken : ℕ) → IsLog self.old posted taken → Took result posted taken self.old self.new }
+        ensures taken { Takes result self.old self.new }
     {
         self.places.take(&self.cells)
     }
@@ -138,11 +138,10 @@ impl DataQueue {
     /// then.
     pub fn set_head(&mut self, value: u32) -> Result<(), BadHead>
         requires live { self.old.live ≡ true }
-        ensures accepted { is_ok result ≡ (nat_lt value (length self.old.cells) && nat_le (places_between (length self.old.cells) self.old.head value) self.old.waiting) }
+        ensures accepted { is_ok result ≡ is_head value self.old }
         ensures refused { OnErr result (self.new ≡ self.old) }
-        ensures kept { (self.new.marked ≡ self.old.marked) × (self.new.live ≡ true) × (self.new.cells ≡ self.old.cells) }
-        ensures taken { OnOk result ((posted : List Change) (taken : ℕ) → IsLog self.old posted taken
-            → IsLog self.new posted (taken + places_between (length self.old.cells) self.old.head value)) }
+        ensures told { IfErr result (λ e. e.value ≡ value) }
+        ensures taken { OnOk result (TakesBefore value self.old self.new) }
     {
         self.places.set_head(&self.cells, value)
     }

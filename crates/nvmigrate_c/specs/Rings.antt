@@ -7,6 +7,7 @@ use Rattle.nvm_ring.specs.Places.{IsRing, IsGuestRing}
 use Rattle.nvmigrate_c.specs.declared.entry.SqEntry.{SqEntry}
 use Rattle.nvmigrate_c.specs.declared.entry.CqEntry.{CqEntry}
 use Rattle.nvmigrate_c.specs.declared.ring.Sq.{Sq}
+use Rattle.nvmigrate_c.specs.declared.ring.GuestSq.{GuestSq}
 use Rattle.nvmigrate_c.specs.declared.completion.Cq.{Cq}
 use Rattle.nvmigrate_c.specs.declared.completion.GuestCq.{GuestCq}
 use Rattle.nvmigrate_c.specs.Entries.{cqe_in, sqe_in}
@@ -18,6 +19,12 @@ sq_in sq = record { size = sq.size; head = sq.head; tail = sq.tail }
 
 abbrev pub IsSq : Sq → Type 0
 IsSq sq = IsRing 64 (sq_in sq)
+
+abbrev pub guest_sq_in : GuestSq → RingState
+guest_sq_in sq = record { size = sq.size; head = sq.head; tail = sq.tail }
+
+abbrev pub IsGuestSq : GuestSq → Type 0
+IsGuestSq sq = IsRing 64 (guest_sq_in sq)
 
 abbrev pub cq_in : Cq → CqState
 cq_in cq = record { ring = record { size = cq.size; head = cq.head; tail = cq.tail }; phase = cq.phase == 1 }

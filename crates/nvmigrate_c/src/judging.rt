@@ -21,7 +21,7 @@ use std::alloc::Global;
 const MOST_JUDGED: usize = 67_108_864;
 
 /// Where a text is wrong: the line, counted from 1, and of a script's line what is wrong with it: 0 its form, 1 a
-/// number that is out of its range, 2 that it has no line feed or isn't there.
+/// number that is out of its range, 2 that it has no line feed or isn't there. Of a transcript's line the latter is 0.
 #[repr(C)]
 #[derive(Clone, Copy)]
 pub struct WrongLine {
@@ -45,6 +45,8 @@ pub extern "C" fn nvmigrate_judge(alloc: Global, text: &[u8], wrong: &mut WrongL
         → MatchOption (verdict_told result wrong.new.line) ⊥ (λ v. HasVerdict text.now v) }
     ensures refused { result ≡ BAD_SCRIPT → (why : TheWhy) × (wrong.new.why ≡ why_number why)
         × IsFrontRefused text.now (Bad (record { line = wrong.new.line; why = why })) }
+    ensures why { result ≢ OK → result ≢ TOO_LONG → result ≢ OUT_OF_MEMORY → result ≢ BAD_SCRIPT
+        → wrong.new.why ≡ 0 }
     ensures yes { result ≡ OK → wrong.new ≡ wrong.old }
     ensures unread { result ≡ TOO_LONG → wrong.new ≡ wrong.old }
     ensures unjudged { result ≡ OUT_OF_MEMORY → wrong.new ≡ wrong.old }

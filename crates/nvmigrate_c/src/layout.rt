@@ -9,13 +9,14 @@ use crate::entry::{CqEntry, SqEntry};
 use crate::judging::WrongLine;
 use crate::parts::{Pair, Parts};
 use crate::queue::{Entry, Queue};
-use crate::ring::Sq;
+use crate::ring::{GuestSq, Sq};
 
-const SIZES: [usize; 11] = [
+const SIZES: [usize; 12] = [
     size_of::<SqEntry>(),
     size_of::<CqEntry>(),
     size_of::<Sq>(),
     size_of::<Cq>(),
+    size_of::<GuestSq>(),
     size_of::<GuestCq>(),
     size_of::<Command>(),
     size_of::<Pair>(),
@@ -30,7 +31,7 @@ const SIZES: [usize; 11] = [
 pub extern "C" fn nvmigrate_layout_size(place: u32) -> usize
     ensures { result ≡ size_in place }
 {
-    if place >= 11 {
+    if place >= 12 {
         return 0;
     }
     SIZES[place as usize]
@@ -98,6 +99,14 @@ pub extern "C" fn nvmigrate_layout_pair(p: &Pair, out: &mut [u64; 7])
         u64::from(p.cq.tail),
         u64::from(p.cq.phase),
     ];
+}
+
+/// The fields of the guest's end of a submission queue, in order.
+#[unsafe(no_mangle)]
+pub extern "C" fn nvmigrate_layout_guest_sq(sq: &GuestSq, out: &mut [u64; 3])
+    ensures { out.new ≡ sq.now.size ∷ sq.now.head ∷ sq.now.tail ∷ [] }
+{
+    *out = [u64::from(sq.size), u64::from(sq.head), u64::from(sq.tail)];
 }
 
 /// The fields of the guest's end of a completion queue, in order.

@@ -13,3 +13,4 @@ mod layout;
 mod parts;
 mod queue;
 mod ring;
+mod version;

@@ -5,7 +5,7 @@ ghost use Rattle.ctl_state.specs.Image.{image_bytes};
 ghost use Rattle.ctl_state.specs.Parts.{Feeds, IsWhole};
 ghost use Rattle.nvmigrate_c.specs.Parts.{HasFlag, HasRings, IsParts, feed_told, image_in, pair_in, parts_in, state_of};
 
-use crate::code::{BAD_IMAGE, BAD_PARTS, BAD_RING, BAD_SEQUENCE, NONE, OK, TOO_LONG};
+use crate::code::{BAD_FIELD, BAD_IMAGE, BAD_PARTS, BAD_RING, BAD_SEQUENCE, NONE, OK, TOO_LONG};
 use crate::completion::Cq;
 use crate::ring::Sq;
 use ctl_state::{Image, PairState, PartRefusal};
@@ -123,6 +123,10 @@ pub extern "C" fn nvmigrate_parts_feed(
     ensures fed { IsParts parts.old → MatchOption (feed_told result place.new) ⊥
         (λ r. Feeds offset part.now r (parts_in parts.old) (parts_in parts.new)) }
     ensures sound { IsParts parts.old → IsParts parts.new }
+    ensures bytes { result ≡ OK → parts.new.bytes
+        ≡ take offset parts.old.bytes ++ part.now ++ drop (offset + length part.now) parts.old.bytes }
+    ensures same { result ≢ OK → 0 < offset → parts.new ≡ parts.old }
+    ensures anew { result ≢ OK → IsParts parts.old → offset ≡ 0 → parts.new ≡ record parts.old { fed = 0 } }
     ensures place { result ≢ BAD_IMAGE → place.new ≡ place.old }
 {
     let Some(mut fed) = parts.library() else {
@@ -200,22 +204,26 @@ pub extern "C" fn nvmigrate_parts_whole(parts: &Parts, out: &mut [Pair; 8]) -> u
 ///
 /// # Errors
 ///
-/// `TOO_LONG` exactly where there are more than 8 pairs, `BAD_RING` exactly where there aren't and an end of one is
-/// no ring; then `out` and `count` stay as they were.
+/// `BAD_FIELD` exactly where there is no pair, `TOO_LONG` exactly where there are more than 8, `BAD_RING` exactly where
+/// neither is so and an end of one is no ring; then `out` and `count` stay as they were.
 #[unsafe(no_mangle)]
 pub extern "C" fn nvmigrate_image_encode(
     pairs: &[Pair],
     out: &mut [u8; 264],
     count: &mut u32,
 ) -> u32
+    ensures none { length pairs.now ≡ 0 → result ≡ BAD_FIELD }
     ensures many { 8 < length pairs.now → result ≡ TOO_LONG }
-    ensures bad { length pairs.now ≤ 8 → (All HasRings pairs.now → ⊥) → result ≡ BAD_RING }
-    ensures done { length pairs.now ≤ 8 → All HasRings pairs.now → result ≡ OK }
+    ensures bad { 1 ≤ length pairs.now → length pairs.now ≤ 8 → (All HasRings pairs.now → ⊥) → result ≡ BAD_RING }
+    ensures done { 1 ≤ length pairs.now → length pairs.now ≤ 8 → All HasRings pairs.now → result ≡ OK }
     ensures count { result ≡ OK → count.new ≡ 8 + 32 * length pairs.now }
     ensures bytes { result ≡ OK
         → out.new ≡ image_bytes (image_in pairs.now) ++ drop (8 + 32 * length pairs.now) out.old }
     ensures same { result ≢ OK → (out.new ≡ out.old) × (count.new ≡ count.old) }
 {
+    if pairs.is_empty() {
+        return BAD_FIELD;
+    }
     if pairs.len() > 8 {
         return TOO_LONG;
     }

@@ -1,8 +1,8 @@
 // A user data migration queue, over cells that C owns.
-ghost use Rattle.std.specs.Prelude.{◌≡◌, ◌≢◌, ◌+◌, ◌<◌, ◌≤◌, ◌↔◌, ◌==◌, [], ℕ, List, IsTrue, MatchOption, false, length, true};
+ghost use Rattle.std.specs.Prelude.{◌≡◌, ◌≢◌, ◌<◌, ◌≤◌, ◌↔◌, ◌==◌, [], Bool, IsTrue, cond, false, length, true};
 ghost use Rattle.data_queue.specs.declared.change.Change.{Change as TheChange};
-ghost use Rattle.data_queue.specs.Change.{IsChange, change_bytes, change_of};
-ghost use Rattle.data_queue.specs.Log.{IsLog, Posted, Took, is_lost};
+ghost use Rattle.data_queue.specs.Change.{IsChange, change_bytes};
+ghost use Rattle.data_queue.specs.Log.{IsLog, Posted, Takes, TakesBefore, is_lost};
 ghost use Rattle.nvm_model.specs.Ring.{places_between};
 ghost use Rattle.nvmigrate_c.specs.Queues.{IsQueue, change_in, change_told, places_in, queue_in};
 
@@ -20,8 +20,8 @@ pub struct Entry {
 }
 
 /// The places of a queue of from 2 to 65,536 cells: that of the oldest entry that isn't taken, that of the next one,
-/// how many lie between, the phase tag of the next one, whether the mark is up, and whether the queue was created and
-/// isn't deleted.
+/// how many entries wait from the one to the other, the phase tag of the next one, whether the mark is up, and whether
+/// the queue was created and isn't deleted.
 #[repr(C)]
 #[derive(Clone, Copy)]
 pub struct Queue {
@@ -94,44 +94,67 @@ impl Queue {
             && (self.head as usize) < cells
             && (self.next as usize) < cells
             && self.waiting as usize <= cells
+            && self.next as usize == (self.head as usize + self.waiting as usize) % cells
             && self.phase <= 1
             && self.marked <= 1
             && self.live <= 1
     }
 }
 
-/// Whether these are blocks that an entry may name.
-fn is_change(entry: Entry) -> bool
-    ensures { IsTrue result ↔ IsChange (change_in entry) }
-{
-    entry.first < 131_072 && entry.count >= 1 && entry.count <= 64
-}
-
 /// The 32 bytes of an entry with that phase tag, 0 or 1.
 ///
 /// # Errors
 ///
-/// `BAD_FIELD` exactly where the phase tag is neither; `out` stays as it was.
+/// `BAD_FIELD` exactly where the phase tag is neither, or the entry names other blocks than it may; `out` stays as it
+/// was.
 #[unsafe(no_mangle)]
 pub extern "C" fn nvmigrate_change_to_bytes(entry: &Entry, phase: u8, out: &mut [u8; 32]) -> u32
-    ensures done { phase ≤ 1 → result ≡ OK }
-    ensures bad { 1 < phase → result ≡ BAD_FIELD }
+    ensures done { phase ≤ 1 → IsChange (change_in entry.now) → result ≡ OK }
+    ensures tag { 1 < phase → result ≡ BAD_FIELD }
+    ensures bad { (IsChange (change_in entry.now) → ⊥) → result ≡ BAD_FIELD }
     ensures bytes { result ≡ OK → out.new ≡ change_bytes (change_in entry.now) (phase == 1) }
     ensures same { result ≢ OK → out.new ≡ out.old }
 {
+    let change = entry.change();
     if phase > 1 {
         return BAD_FIELD;
     }
-    *out = entry.change().to_bytes(phase == 1);
+    if !change.is_in_range() {
+        return BAD_FIELD;
+    }
+    *out = change.to_bytes(phase == 1);
     OK
 }
 
-/// The blocks that an entry of 32 bytes names.
+/// The blocks that an entry of 32 bytes names, and its phase tag.
+///
+/// # Errors
+///
+/// `BAD_FIELD` exactly where the bytes are no entry: a byte is another than its layout asks for, or a number is out of
+/// its range. Then `out` and `phase` stay as they were.
 #[unsafe(no_mangle)]
-pub extern "C" fn nvmigrate_change_from_bytes(b: &[u8; 32], out: &mut Entry)
-    ensures { change_in out.new ≡ change_of b.now }
+pub extern "C" fn nvmigrate_change_from_bytes(b: &[u8; 32], out: &mut Entry, phase: &mut u8) -> u32
+    ensures read { result ≡ OK → IsChange (change_in out.new) × (phase.new ≤ 1)
+        × (b.now ≡ change_bytes (change_in out.new) (phase.new == 1)) }
+    ensures back { (c : TheChange) (tag : Bool) → IsChange c → change_bytes c tag ≡ b.now
+        → (result ≡ OK) × (change_in out.new ≡ c) × (phase.new ≡ cond tag 1 0) }
+    ensures bad { result ≢ OK → result ≡ BAD_FIELD }
+    ensures same { result ≢ OK → (out.new ≡ out.old) × (phase.new ≡ phase.old) }
 {
-    *out = Entry::of(Change::from_bytes(b));
+    let Some((change, tag)) = Change::parse(b) else {
+        return BAD_FIELD;
+    };
+    *out = Entry::of(change);
+    *phase = flag(tag);
+    OK
+}
+
+/// The struct of a queue that isn't live, whatever it was before.
+#[unsafe(no_mangle)]
+pub extern "C" fn nvmigrate_queue_init(queue: &mut Queue)
+    ensures { queue.new ≡ record { head = 0; next = 0; waiting = 0; phase = 1; marked = 0; live = 0 } }
+{
+    *queue = Queue::of(Places::NONE);
 }
 
 /// A new queue with zeroed cells and no mark.
@@ -218,11 +241,12 @@ pub extern "C" fn nvmigrate_queue_post(
     if queue.live == 0 {
         return NOT_LIVE;
     }
-    if !is_change(*entry) {
+    let change = entry.change();
+    if !change.is_in_range() {
         return BAD_FIELD;
     }
     let mut places = queue.places();
-    let posted = places.post(cells, entry.change());
+    let posted = places.post(cells, change);
     *queue = Queue::of(places);
     if posted.is_err() { FULL } else { OK }
 }
@@ -243,9 +267,8 @@ pub extern "C" fn nvmigrate_queue_take(
     ensures idle { IsQueue (length cells.now) queue.old → queue.old.live ≡ 0 → result ≡ NOT_LIVE }
     ensures none { IsQueue (length cells.now) queue.old → queue.old.live ≡ 1 → queue.old.waiting ≡ 0 → result ≡ NONE }
     ensures some { IsQueue (length cells.now) queue.old → queue.old.live ≡ 1 → queue.old.waiting ≢ 0 → result ≡ OK }
-    ensures taken { IsQueue (length cells.now) queue.old → queue.old.live ≡ 1 → (posted : List TheChange) → (taken : ℕ)
-        → IsLog (queue_in queue.old cells.now) posted taken → Took (change_told result out.new) posted taken
-        (queue_in queue.old cells.now) (queue_in queue.new cells.now) }
+    ensures taken { IsQueue (length cells.now) queue.old → queue.old.live ≡ 1
+        → Takes (change_told result out.new) (queue_in queue.old cells.now) (queue_in queue.new cells.now) }
     ensures sound { IsQueue (length cells.now) queue.old → IsQueue (length cells.now) queue.new }
     ensures same { result ≢ OK → (queue.new ≡ queue.old) × (out.new ≡ out.old) }
 {
@@ -281,9 +304,8 @@ pub extern "C" fn nvmigrate_queue_set_head(queue: &mut Queue, cells: &[[u8; 32]]
         → queue.old.waiting < places_between (length cells.now) queue.old.head value → result ≡ BAD_DOORBELL }
     ensures accepted { IsQueue (length cells.now) queue.old → queue.old.live ≡ 1 → value < length cells.now
         → places_between (length cells.now) queue.old.head value ≤ queue.old.waiting → result ≡ OK }
-    ensures taken { result ≡ OK → (posted : List TheChange) → (taken : ℕ)
-        → IsLog (queue_in queue.old cells.now) posted taken → IsLog (queue_in queue.new cells.now) posted
-        (taken + places_between (length cells.now) queue.old.head value) }
+    ensures taken { result ≡ OK
+        → TakesBefore value (queue_in queue.old cells.now) (queue_in queue.new cells.now) }
     ensures sound { IsQueue (length cells.now) queue.old → IsQueue (length cells.now) queue.new }
     ensures same { result ≢ OK → queue.new ≡ queue.old }
 {

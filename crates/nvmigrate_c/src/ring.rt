@@ -7,17 +7,27 @@ ghost use Rattle.nvm_ring.specs.Places.{IsRing};
 ghost use Rattle.nvm_ring.specs.Moves.{after_fetch, after_learn, after_submit};
 ghost use Rattle.nvm_ring.specs.Stands.{FetchesOldest, SubmitsNewest};
 ghost use Rattle.nvmigrate_c.specs.Entries.{sqe_in};
-ghost use Rattle.nvmigrate_c.specs.Rings.{IsSq, sq_in, sqe_told, told};
+ghost use Rattle.nvmigrate_c.specs.Rings.{IsGuestSq, IsSq, guest_sq_in, sq_in, sqe_told, told};
 
 use crate::code::{BAD_DOORBELL, BAD_RING, FULL, NONE, OK};
 use crate::entry::SqEntry;
 use nvm_ring::{RingState, SqRing};
 
-/// An end of a submission queue, of from 2 to 64 places: how many, that of the oldest entry, and that of the next
-/// one.
+/// The controller's end of a submission queue, of from 2 to 64 places: how many, that of the oldest entry, and that of
+/// the next one, as the doorbell was rung last.
 #[repr(C)]
 #[derive(Clone, Copy)]
 pub struct Sq {
+    pub size: u16,
+    pub head: u16,
+    pub tail: u16,
+}
+
+/// The guest's end of a submission queue, of from 2 to 64 places: how many, the controller's head as it was learnt
+/// last, and the place of the next entry.
+#[repr(C)]
+#[derive(Clone, Copy)]
+pub struct GuestSq {
     pub size: u16,
     pub head: u16,
     pub tail: u16,
@@ -55,12 +65,29 @@ impl Sq {
         }
         Some(SqRing::new(ring))
     }
+}
+
+impl GuestSq {
+    /// The places for C.
+    fn of(ring: RingState) -> GuestSq
+        ensures { guest_sq_in result ≡ ring }
+    {
+        GuestSq {
+            size: ring.size,
+            head: ring.head,
+            tail: ring.tail,
+        }
+    }
 
     /// The guest's end at these places; `None` exactly where they are none.
     fn guest(self) -> Option<nvm_ring::GuestSq>
-        ensures { MatchOption result (IsSq self → ⊥) (λ r. IsSq self × (r ≡ sq_in self)) }
+        ensures { MatchOption result (IsGuestSq self → ⊥) (λ r. IsGuestSq self × (r ≡ guest_sq_in self)) }
     {
-        let ring = self.state();
+        let ring = RingState {
+            size: self.size,
+            head: self.head,
+            tail: self.tail,
+        };
         if !is_ring(ring, 64) {
             return None;
         }
@@ -75,7 +102,7 @@ pub(crate) fn is_ring(ring: RingState, most: u16) -> bool
     ring.size >= 2 && ring.size <= most && ring.head < ring.size && ring.tail < ring.size
 }
 
-/// An end of an empty submission queue of from 2 to 64 places, over a zeroed page: the controller's, and the guest's.
+/// The controller's end of an empty submission queue of from 2 to 64 places, over a zeroed page.
 ///
 /// # Errors
 ///
@@ -147,6 +174,27 @@ pub extern "C" fn nvmigrate_sq_fetch(sq: &mut Sq, page: &[u8; 4096], out: &mut S
     OK
 }
 
+/// The guest's end of an empty submission queue of from 2 to 64 places, over a zeroed page.
+///
+/// # Errors
+///
+/// `BAD_RING` exactly where there are fewer or more; `out` stays as it was.
+#[unsafe(no_mangle)]
+pub extern "C" fn nvmigrate_guest_sq_new(size: u16, out: &mut GuestSq) -> u32
+    ensures done { 2 ≤ size → size ≤ 64 → result ≡ OK }
+    ensures few { size < 2 → result ≡ BAD_RING }
+    ensures many { 64 < size → result ≡ BAD_RING }
+    ensures value { result ≡ OK → guest_sq_in out.new ≡ record { size = size; head = 0; tail = 0 } }
+    ensures start { result ≡ OK → IsSqRing (guest_sq_in out.new) zero_page [] }
+    ensures same { result ≢ OK → out.new ≡ out.old }
+{
+    if size < 2 || size > 64 {
+        return BAD_RING;
+    }
+    *out = GuestSq::of(nvm_ring::GuestSq::new(size).state());
+    OK
+}
+
 /// The guest writes an entry into the queue's page, after the others. The new tail, which the doorbell is rung with,
 /// is `sq.tail`.
 ///
@@ -156,17 +204,17 @@ pub extern "C" fn nvmigrate_sq_fetch(sq: &mut Sq, page: &[u8; 4096], out: &mut S
 /// head that was learnt last; then `sq` and the page stay as they were.
 #[unsafe(no_mangle)]
 pub extern "C" fn nvmigrate_guest_sq_submit(
-    sq: &mut Sq,
+    sq: &mut GuestSq,
     page: &mut [u8; 4096],
     entry: &SqEntry,
 ) -> u32
-    ensures bad { (IsSq sq.old → ⊥) → result ≡ BAD_RING }
-    ensures done { IsSq sq.old → next_place sq.old.size sq.old.tail ≢ sq.old.head → result ≡ OK }
-    ensures full { IsSq sq.old → next_place sq.old.size sq.old.tail ≡ sq.old.head → result ≡ FULL }
-    ensures moved { result ≡ OK → sq_in sq.new ≡ after_submit (sq_in sq.old) }
+    ensures bad { (IsGuestSq sq.old → ⊥) → result ≡ BAD_RING }
+    ensures done { IsGuestSq sq.old → next_place sq.old.size sq.old.tail ≢ sq.old.head → result ≡ OK }
+    ensures full { IsGuestSq sq.old → next_place sq.old.size sq.old.tail ≡ sq.old.head → result ≡ FULL }
+    ensures moved { result ≡ OK → guest_sq_in sq.new ≡ after_submit (guest_sq_in sq.old) }
     ensures page { result ≡ OK → page.new ≡ written page.old (64 * sq.old.tail) (sqe_bytes (sqe_in entry.now)) }
     ensures same { result ≢ OK → (sq.new ≡ sq.old) × (page.new ≡ page.old) }
-    ensures newest { IsSq sq.old → SubmitsNewest (sq_in sq.old) page.old page.new (sqe_in entry.now) (told result) }
+    ensures newest { IsGuestSq sq.old → SubmitsNewest (guest_sq_in sq.old) page.old page.new (sqe_in entry.now) (told result) }
 {
     let Some(mut ring) = sq.guest() else {
         return BAD_RING;
@@ -174,7 +222,7 @@ pub extern "C" fn nvmigrate_guest_sq_submit(
     let Ok(_) = ring.submit(page, &entry.sqe()) else {
         return FULL;
     };
-    *sq = Sq::of(ring.state());
+    *sq = GuestSq::of(ring.state());
     OK
 }
 
@@ -185,11 +233,11 @@ pub extern "C" fn nvmigrate_guest_sq_submit(
 /// `BAD_RING` exactly where the struct is no ring, `BAD_DOORBELL` exactly where it is one and the head is its size or
 /// more; then it stays as it was.
 #[unsafe(no_mangle)]
-pub extern "C" fn nvmigrate_guest_sq_learn(sq: &mut Sq, head: u16) -> u32
-    ensures bad { (IsSq sq.old → ⊥) → result ≡ BAD_RING }
-    ensures taken { IsSq sq.old → head < sq.old.size → result ≡ OK }
-    ensures refused { IsSq sq.old → sq.old.size ≤ head → result ≡ BAD_DOORBELL }
-    ensures learnt { result ≡ OK → sq_in sq.new ≡ after_learn head (sq_in sq.old) }
+pub extern "C" fn nvmigrate_guest_sq_learn(sq: &mut GuestSq, head: u16) -> u32
+    ensures bad { (IsGuestSq sq.old → ⊥) → result ≡ BAD_RING }
+    ensures taken { IsGuestSq sq.old → head < sq.old.size → result ≡ OK }
+    ensures refused { IsGuestSq sq.old → sq.old.size ≤ head → result ≡ BAD_DOORBELL }
+    ensures learnt { result ≡ OK → guest_sq_in sq.new ≡ after_learn head (guest_sq_in sq.old) }
     ensures same { result ≢ OK → sq.new ≡ sq.old }
 {
     let Some(mut ring) = sq.guest() else {
@@ -198,6 +246,6 @@ pub extern "C" fn nvmigrate_guest_sq_learn(sq: &mut Sq, head: u16) -> u32
     let Ok(()) = ring.learn(head) else {
         return BAD_DOORBELL;
     };
-    *sq = Sq::of(ring.state());
+    *sq = GuestSq::of(ring.state());
     OK
 }

@@ -5,8 +5,8 @@ use Rattle.data_queue.specs.Places.{queue_of}
 use Rattle.data_queue.proofs.LogLemmas.{change_back, log_oldest}
 use Rattle.data_queue.proofs.places.oldest.Goals as goal
 
-pub returns : goal.returns
-returns c = λ posted taken log.
-    let oldest = log_oldest (queue_of c.args.places c.args.cells.now) posted taken c.requires.some log in
-    let read : c.from_bytes.result ≡ oldest.0 = c.from_bytes.ensures ∙ ap change_of oldest.3 ∙ change_back oldest.0 (phase_of (length c.args.cells.now) taken) oldest.2 in
+pub returns-clause-log : goal.returns-clause-log
+returns-clause-log c = λ some posted taken log.
+    let oldest = log_oldest (queue_of c.args.places c.args.cells.now) posted taken some log in
+    let read : c.of_bytes.result ≡ oldest.0 = c.of_bytes.ensures ∙ ap change_of oldest.3 ∙ change_back oldest.0 (phase_of (length c.args.cells.now) taken) oldest.2 in
     rw read oldest.1

@@ -1,0 +1,10 @@
+use Rattle.std.proofs.Common.{◌≡◌, subst, sym, true}
+use Rattle.data_queue.specs.Log.{QueueState}
+use Rattle.data_queue.proofs.LogLemmas.{has_taken}
+use Rattle.data_queue.proofs.queue.DataQueue.take.Goals as goal
+
+pub invariant_of-self : goal.invariant_of-self
+invariant_of-self c =
+    let cells = c.deref.ensures.value in
+    let live = subst (λ (q : QueueState). q.live ≡ true) (sym c.self.view_is) c.requires.live in
+    rw (← cells) (c.take.ensures.sound, λ _. has_taken _ c.take.ensures.taken (rw cells (c.self.invariant.1 live)))
