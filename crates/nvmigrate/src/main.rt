@@ -2,7 +2,7 @@
 //! comes back to standard error, and ends with its code. It answers `--help` and `--version` itself.
 #![tactic(auto)]
 
-ghost use Rattle.std.specs.Prelude.{◌×◌, IfErr, map, string_bytes};
+ghost use Rattle.std.specs.Prelude.{IfErr, map, string_bytes};
 ghost use Rattle.engine.specs.declared.status.Status.{Status};
 ghost use Rattle.nvmigrate.specs.Ending.{EndsWith, IsAnswered, IsNoWords};
 ghost use Rattle.session.specs.Sides.{sink};
@@ -70,10 +70,10 @@ fn program<R: Threads + Sync, S: Source, K: Sink, E: Sink>(
     errors: &mut E,
 ) -> u8
     ensures { (status : Status) × IsAnswered (map string_bytes words.now) (S.left input.old)
-            (S.faults input.old) (S.faults input.new)
-            (sink (K.bytes output.old) (K.faults output.old)) (sink (K.bytes output.new) (K.faults output.new)) status
+        (S.faults input.old) (S.faults input.new)
+        (sink (K.bytes output.old) (K.faults output.old)) (sink (K.bytes output.new) (K.faults output.new)) status
         × EndsWith status (sink (E.bytes errors.old) (E.faults errors.old))
-            (sink (E.bytes errors.new) (E.faults errors.new)) result }
+        (sink (E.bytes errors.new) (E.faults errors.new)) result }
 {
     let status = answer(rt, alloc, words, input, output);
     end(status, errors)

@@ -62,10 +62,15 @@ Lined Over true lines = (before : List Line) × (migration : List Line) × (afte
 
 turned : (tried : Bool) (lines events : List Line) → AreEvents events → Lined Running tried lines → Lined Running tried (lines ++ events)
 turned false lines events are h = (h.0 ++ events, ap (λ (ls : List Line). ls ++ events) h.1, both h.0 events h.2 are)
-turned true lines events are (before, migration, after, is, first, migrates, second) =
-    (before, migration, after ++ events,
-      ap (λ (ls : List Line). ls ++ events) is ∙ ap (λ (ls : List Line). line.Title ∷ line.Ready ∷ ls) (append_assoc before (migration ++ after) events ∙ ap (λ (ls : List Line). before ++ ls) (append_assoc migration after events)),
-      first, migrates, both after events second are)
+turned true lines events are (before, migration, after, is, first, migrates, second) = (
+  before,
+  migration,
+  after ++ events,
+  ap (λ (ls : List Line). ls ++ events) is ∙ ap (λ (ls : List Line). line.Title ∷ line.Ready ∷ ls) (append_assoc before (migration ++ after) events ∙ ap (λ (ls : List Line). before ++ ls) (append_assoc migration after events)),
+  first,
+  migrates,
+  both after events second are,
+)
 
 begun : (lines : List Line) → Lined Running false lines → Lined Suspended true (lines ++ line.Migrate ∷ line.Suspend ∷ [])
 begun lines h = (h.0, ap (λ (ls : List Line). ls ++ line.Migrate ∷ line.Suspend ∷ []) h.1, h.2, refl)
@@ -73,17 +78,27 @@ begun lines h = (h.0, ap (λ (ls : List Line). ls ++ line.Migrate ∷ line.Suspe
 -- the guests go on where they were suspended, with these lines behind
 went_on : (tried : Bool) (lines rest : List Line) → Migrates (line.Migrate ∷ line.Suspend ∷ rest) → Lined Suspended tried lines → Lined Running true (lines ++ rest)
 went_on tried lines rest migrates (before, is, are, begun) =
-    let moved = line.Migrate ∷ line.Suspend ∷ rest in
-    (before, moved, [],
+    let moved = line.Migrate ∷ line.Suspend ∷ rest in (
+      before,
+      moved,
+      [],
       ap (λ (ls : List Line). ls ++ rest) is ∙ ap (λ (ls : List Line). line.Title ∷ line.Ready ∷ ls) (append_assoc before (line.Migrate ∷ line.Suspend ∷ []) rest ∙ ap (λ (ls : List Line). before ++ ls) (sym (append-nil moved))),
-      are, migrates, tt)
+      are,
+      migrates,
+      tt,
+    )
 
 ended : (tried : Bool) (lines : List Line) → Lined Running tried lines → Lined Over tried (lines ++ line.End ∷ [])
 ended false lines h = (h.0, ap (λ (ls : List Line). ls ++ line.End ∷ []) h.1, h.2)
-ended true lines (before, migration, after, is, first, migrates, second) =
-    (before, migration, after,
-      ap (λ (ls : List Line). ls ++ line.End ∷ []) is ∙ ap (λ (ls : List Line). line.Title ∷ line.Ready ∷ ls) (append_assoc before (migration ++ after) (line.End ∷ []) ∙ ap (λ (ls : List Line). before ++ ls) (append_assoc migration after (line.End ∷ []))),
-      first, migrates, second)
+ended true lines (before, migration, after, is, first, migrates, second) = (
+  before,
+  migration,
+  after,
+  ap (λ (ls : List Line). ls ++ line.End ∷ []) is ∙ ap (λ (ls : List Line). line.Title ∷ line.Ready ∷ ls) (append_assoc before (migration ++ after) (line.End ∷ []) ∙ ap (λ (ls : List Line). before ++ ls) (append_assoc migration after (line.End ∷ []))),
+  first,
+  migrates,
+  second,
+)
 
 -- the same phase and the same answer, by other words
 as_in : (p q : RunPhase) (a b : Bool) (lines : List Line) → p ≡ q → a ≡ b → Lined p a lines → Lined q b lines
