@@ -1,0 +1,1 @@
+"""Pictures of runs: what tools/picture is made of."""
