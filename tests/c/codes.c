@@ -1,5 +1,5 @@
-/* Each code of the header by a situation that gives it, and what the call then left. A line for each: the number and the
- * situation. Memory is this program's, so that there can be none. */
+/* Each code of the header by a situation that gives it, and what the call then left. A line for each: the number and
+ * the situation. Memory is this program's, so that there can be none. */
 #include <nvmigrate.h>
 #include <stdbool.h>
 #include <stdio.h>
