@@ -49,7 +49,7 @@ enum nvmigrate_code {
     NVMIGRATE_FULL = 2,         /* no place is free */
     NVMIGRATE_BAD_DOORBELL = 3, /* the ring or the queue doesn't take this place */
     NVMIGRATE_BAD_RING = 4,     /* the numbers of the struct aren't those of a ring */
-    NVMIGRATE_BAD_FIELD = 5,    /* a number is out of its range */
+    NVMIGRATE_BAD_FIELD = 5,    /* a number is out of its range, or a byte can't stand where it does */
     NVMIGRATE_BAD_OPCODE = 6,   /* byte 0 is the opcode of no admin command */
     NVMIGRATE_BAD_SELECT = 7,   /* byte 40 is the selector of no command of this opcode */
     NVMIGRATE_BAD_SEQUENCE = 8, /* a part begins neither at byte 0 nor where the bytes fed end */
@@ -248,7 +248,8 @@ struct nvmigrate_pair {
 };
 
 /* An image that comes in parts: how many of its bytes were fed, of how many queue pairs it is, 1 to 8, and the bytes.
- * parts_feed and parts_whole test that an image begins so, and else answer NVMIGRATE_BAD_PARTS, before anything else. */
+ * parts_feed and parts_whole test that an image begins so, and else answer NVMIGRATE_BAD_PARTS, before anything
+ * else. */
 struct nvmigrate_parts {
     uint32_t fed;
     uint8_t lanes;
@@ -369,8 +370,8 @@ uint32_t nvmigrate_judge(const uint8_t *text, size_t count, struct nvmigrate_wro
 
 /* How the library sees the structs, to be compared with what the C compiler sees (tests/c/layout.c): the size of a
  * struct, by its place in this list, sqe, cqe, sq, cq, guest_sq, guest_cq, admin, pair, parts, wrong_line, change,
- * queue, and 0 for another place; and the fields of one in order, those of a pair being its two ends', and of the bytes of
- * parts the first and the last. */
+ * queue, and 0 for another place; and the fields of one in order, those of a pair being its two ends', and of the
+ * bytes of parts the first and the last. */
 size_t nvmigrate_layout_size(uint32_t place);
 void nvmigrate_layout_sqe(const struct nvmigrate_sqe *entry, uint64_t out[15]);
 void nvmigrate_layout_cqe(const struct nvmigrate_cqe *entry, uint64_t out[11]);

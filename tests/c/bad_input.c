@@ -221,19 +221,23 @@ static void queues(void) {
     CALL(nvmigrate_queue_delete, queue, &queue);
 }
 
-/* A change is read back from its bytes, and not where one bit of them turned, but for that of the phase tag. */
+/* A change is read back from its bytes. With one bit of them turned they are no entry, or that of another change. */
 static void changes(void) {
     struct nvmigrate_change change = {word() % 8 ? word() % 131072 : number(), word() % 8 ? word() % 64 + 1 : number()};
     struct nvmigrate_change old, again = {0, 0};
-    uint8_t entry[32], phase = 0, tag = word() % 8 ? word() % 2 : number();
-    uint32_t code = nvmigrate_change_to_bytes(&change, tag, entry);
-    answered(code, "change_to_bytes");
-    if (code != NVMIGRATE_OK)
+    uint8_t entry[32], other[32], phase = 0, tag = word() % 8 ? word() % 2 : number();
+    uint32_t written = nvmigrate_change_to_bytes(&change, tag, entry);
+    answered(written, "change_to_bytes");
+    if (written != NVMIGRATE_OK)
         return;
     answered(nvmigrate_change_from_bytes(entry, &again, &phase) != NVMIGRATE_OK ? 99 : NVMIGRATE_OK, "read back");
     answered(memcmp(&change, &again, sizeof change) != 0 || phase != tag ? 99 : NVMIGRATE_OK, "read back");
     entry[word() % 32] ^= 1u << word() % 8;
     CALL(nvmigrate_change_from_bytes, again, entry, &again, &phase);
+    if (nvmigrate_change_from_bytes(entry, &again, &phase) == NVMIGRATE_OK) {
+        answered(nvmigrate_change_to_bytes(&again, phase, other), "change_to_bytes");
+        answered(memcmp(entry, other, sizeof entry) != 0 ? 99 : NVMIGRATE_OK, "read back");
+    }
 }
 
 #define SCRIPT                                                                                  \
