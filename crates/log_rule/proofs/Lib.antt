@@ -1,0 +1,4 @@
+pub mod Lists
+pub mod PlaceLemmas
+pub mod Looks
+pub mod Draws
