@@ -2,3 +2,5 @@ pub mod Lists
 pub mod PlaceLemmas
 pub mod Looks
 pub mod Draws
+pub mod Posts
+pub mod Seats

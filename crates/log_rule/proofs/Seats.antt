@@ -1,0 +1,122 @@
+-- Seats are split off and joined.
+use Rattle.std.proofs.Common.{◌≡◌, ◌≢◌, ◌⊎◌, ℕ, zero, suc, ◌+◌, ◌-◌, ◌*◌, ◌%◌, ◌<◌, ◌≤◌, List, [], ◌∷◌, ◌++◌, append-nil, ap, ◌∙◌, arith, get_or, get_or-set_other, get_or-set_same, inl, inr, length, length-append, length-set, lt_of_not-le, refl, set, subst, sym, ⊎_elim}
+use mathlib.Core.Logic.{dite}
+use mathlib.Core.Option.{none, some, some-injective, some-ne-none}
+use native.Mathlib.Decide.{ℕ_discrete, dec_le}
+use lib.ListN.{get_elem?}
+use Rattle.atomic_table.specs.Table.{Joins, Splits, State}
+use Rattle.atomic_table.proofs.Lists.{at_last, at_longer, at_set, set_here, set_else}
+use Rattle.log_rule.specs.declared.view.Desk.{Desk}
+use Rattle.log_rule.specs.declared.view.Entry.{Entry}
+use Rattle.log_rule.specs.declared.view.Lost.{Lost}
+use Rattle.log_rule.specs.declared.view.View.{View}
+use Rattle.log_rule.specs.Places.{Place, Free, Pending, GivenUp, Published, entry_by, posted_by}
+use Rattle.log_rule.specs.Plays.{fresh, joined, out_desk, spent, split_left, split_right}
+use Rattle.log_rule.specs.Rule.{AreLost, Holds, IsLogTable, IsTold, Knows, Leads, TellsLost, losses, mark_for, no_desk, purse, total}
+use Rattle.log_rule.proofs.Lists.{each_set, one_value, some_length, term_le, total-append, total-set}
+use Rattle.log_rule.proofs.Looks.{Ruled, first_is, with_words}
+use Rattle.log_rule.proofs.PlaceLemmas.{entry_else, lost_more, owner, tells_left, tells_right}
+
+at_end : {A : Type 0} (l : List A) (a b : A) (j : ℕ) → get_elem? (l ++ a ∷ []) j ≡ some b → (get_elem? l j ≡ some b) ⊎ ((j ≡ length l) × (a ≡ b))
+at_end [] a b zero e = inr (refl, some-injective a b e)
+at_end [] a b (suc j) e = absurd (some-ne-none b (sym e))
+at_end (x ∷ xs) a b zero e = inl e
+at_end (x ∷ xs) a b (suc j) e = ⊎_elim inl (λ (t : (j ≡ length xs) × (a ≡ b)). inr (ap suc t.0, t.1)) (at_end xs a b j e)
+
+get_more : {A : Type 0} (l m : List A) (j : ℕ) (d : A) → j < length l → get_or (l ++ m) j d ≡ get_or l j d
+get_more [] m j d lt = absurd (omega arith)
+get_more (x ∷ xs) m zero d lt = refl
+get_more (x ∷ xs) m (suc j) d lt = get_more xs m j d (omega arith)
+
+-- a desk more, at which nothing is read yet
+out_more : (l : List Desk) (j : ℕ) → (get_or (l ++ out_desk ∷ []) j no_desk).out ≡ (get_or l j no_desk).out
+out_more [] zero = refl
+out_more [] (suc j) = refl
+out_more (x ∷ xs) zero = refl
+out_more (x ∷ xs) (suc j) = out_more xs j
+
+desk_more : (l : List Desk) (j : ℕ) → (get_or (l ++ out_desk ∷ []) j no_desk).posted ≡ (get_or l j no_desk).posted
+desk_more [] zero = refl
+desk_more [] (suc j) = refl
+desk_more (x ∷ xs) zero = refl
+desk_more (x ∷ xs) (suc j) = desk_more xs j
+
+nothing_by : (P : ℕ → Place) (j a k : ℕ) → ((q w : ℕ) → a ≤ q → P q ≢ Published j w) → posted_by P j a k ≡ []
+nothing_by P j a zero ne = refl
+nothing_by P j a (suc k) ne = ap (λ (l : List Entry). l ++ entry_by j (a + k) (P (a + k))) (nothing_by P j a k ne) ∙ entry_else j (a + k) (P (a + k)) (λ w e. ne (a + k) w (omega arith) e)
+
+told_more : (views : List View) (p : ℕ) (v w x : View) → get_elem? views 0 ≡ some v → w.lost ≡ v.lost → IsTold views p → IsTold (set views 0 w ++ x ∷ []) p
+told_more views p v w x me same (i, u, at, tells) = dite (ℕ_discrete i 0)
+    (λ e. (0, w, at_longer (set views 0 w) (x ∷ []) 0 w (set_here views 0 w (some_length views 0 v me)), subst (TellsLost p) (sym same) (subst (λ (z : View). TellsLost p z.lost) (some-injective u v (sym at ∙ (ap (get_elem? views) e ∙ me))) tells)))
+    (λ ne. (i, u, at_longer (set views 0 w) (x ∷ []) i u (set_else views 0 i w ne ∙ at), tells))
+
+module _ {S : Type 0} (n h t : ℕ) (start : ℕ → ℕ) (good : ℕ → Type 0) where
+  pub splits : (id : ℕ) (v : View) → id ≡ 0 → 0 < v.seats → h ≤ t → Splits (Ruled {S = S} n h t start good) id v (split_left v) (split_right v)
+  splits id v zeroth has order s o me' =
+      let me : get_elem? s.views 0 ≡ some v = ap (get_elem? s.views) (sym zeroth) ∙ me' in
+      let w : View = split_left v in
+      let x : View = split_right v in
+      let desks : List Desk = o.desks ++ out_desk ∷ [] in
+      let vs : List View = set s.views 0 w ++ x ∷ [] in
+      let lead = first_is n h t start good s o v me in
+      let knew = o.knows 0 v me in
+      let rest = o.holds in
+      let size : length desks ≡ length o.desks + 1 = length-append o.desks (out_desk ∷ []) in
+      let long : length (set s.views 0 w) ≡ length s.views = length-set s.views 0 w in
+      let here : get_elem? vs 0 ≡ some w = at_longer (set s.views 0 w) (x ∷ []) 0 w (set_here s.views 0 w (some_length s.views 0 v me)) in
+      let number : x.number ≡ length s.views = omega (arith, ap length lead.desks_are, o.count) in
+      let unknown : (q y : ℕ) → t ≤ q → o.places q ≢ Published (length s.views) y = λ q y from e. omega (arith, (rest.sound q (length s.views) y e (omega (arith, from, order))).1, o.count) in
+      let ruled : Ruled n h t start good (with_words n h t start good s s.words vs) = record {
+        places = o.places;
+        desks = desks;
+        holds = record {
+          wide = rest.wide;
+          head = rest.head;
+          tail = rest.tail;
+          before = rest.before;
+          beyond = rest.beyond;
+          drawn = rest.drawn;
+          below = rest.below;
+          near = rest.near;
+          cells = rest.cells;
+          phases = rest.phases;
+          sound = λ p j y e from. let g = rest.sound p j y e from in (g.0, omega (arith, g.1, size));
+          given = λ p e. let g = rest.given p e in (g.0, told_more s.views p v w x me refl g.1);
+          pending = λ p j e. let g = rest.pending p j e in dite (ℕ_discrete j 0)
+              (λ z. (w, ap (get_elem? vs) z ∙ here, ap (λ (z : View). z.pending) (one_value s.views 0 v g.0 me (ap (get_elem? s.views) (sym z) ∙ g.1)) ∙ g.2))
+              (λ ne. (g.0, at_longer (set s.views 0 w) (x ∷ []) j g.0 (set_else s.views 0 j w ne ∙ g.1), g.2));
+        };
+        knows = λ k u at. ⊎_elim
+            (λ (old : get_elem? (set s.views 0 w) k ≡ some u). each_set (λ k u. Knows n t (get_or s.words 0 0) (get_or s.words 1 0) o.places desks k u) s.views 0 w
+                (record { number = knew.number; posted = knew.posted; out = λ l pos. absurd (omega (arith, pos)); gone = knew.gone; pending = knew.pending; head = knew.head; lost = knew.lost })
+                (λ k u ne at. let g = o.knows k u at in record { number = g.number; posted = g.posted; out = λ l pos. out_more o.desks (k - 1) ∙ g.out l pos; gone = g.gone; pending = g.pending; head = g.head; lost = g.lost }) k u old)
+            (λ (new : (k ≡ length (set s.views 0 w)) × (x ≡ u)). subst (λ (u : View). Knows n t (get_or s.words 0 0) (get_or s.words 1 0) o.places desks k u) new.1 (record {
+              number = λ l. omega (arith, number, new.0, long);
+              posted = λ l. sym (nothing_by o.places k t (get_or s.words 0 0 - t) (λ q y from e. unknown q y from (e ∙ ap (λ (i : ℕ). Published i y) (new.0 ∙ long))));
+              out = λ l pos. out_more o.desks (k - 1) ∙ past o.desks (k - 1) (omega (arith, new.0, long, o.count));
+              gone = λ l. absurd (l refl);
+              pending = λ p e. absurd (omega (arith, e));
+              head = omega arith;
+              lost = tt;
+            }))
+            (at_end (set s.views 0 w) x u k at);
+        lead = (w, here, record {
+          live = lead.live;
+          desks_are = ap (λ (l : List Desk). l ++ out_desk ∷ []) lead.desks_are;
+          few = omega (arith, lead.few, size, has);
+          head = lead.head;
+          seen = lead.seen;
+          taken = lead.taken;
+        });
+        count = omega (arith, length-append (set s.views 0 w) (x ∷ []), long, o.count, size);
+        kept = λ j back. desk_more o.desks j ∙ o.kept j (sym (out_more o.desks j) ∙ back);
+        marked = o.marked ∙ ap mark_for (omega (arith, total-append losses (set s.views 0 w) (x ∷ []), total-set losses s.views 0 v w me));
+        bound = omega (arith, o.bound, total-append purse (set s.views 0 w) (x ∷ []), total-set purse s.views 0 v w me, has);
+      } in
+      subst (λ (k : ℕ). Ruled n h t start good (with_words n h t start good s s.words (set s.views k w ++ x ∷ []))) (sym zeroth) ruled
+    where
+      past : (l : List Desk) (j : ℕ) → length l ≤ j → (get_or l j no_desk).out ≡ 1
+      past [] zero le = refl
+      past [] (suc j) le = refl
+      past (x ∷ xs) zero le = absurd (omega arith)
+      past (x ∷ xs) (suc j) le = past xs j (omega arith)
