@@ -4,3 +4,4 @@ pub mod Looks
 pub mod Draws
 pub mod Posts
 pub mod Seats
+pub mod Ends

@@ -1,8 +1,7 @@
 -- The steps that change a view, and no place.
-use Rattle.std.proofs.Common.{◌≡◌, ◌≢◌, ◌⊎◌, ℕ, zero, suc, ◌+◌, ◌-◌, ◌*◌, ◌%◌, ◌<◌, ◌≤◌, List, [], ◌∷◌, ◌++◌, ap, ◌∙◌, arith, get_or, inl, inr, length, length-set, lt_of_not-le, cond, Bool, true, false, not, refl, set, subst, sym, ⊎_elim}
+use Rattle.std.proofs.Common.{◌≡◌, ◌≢◌, ◌⊎◌, ℕ, ◌+◌, ◌-◌, ◌%◌, ◌<◌, ◌≤◌, List, ap, ◌∙◌, arith, get_or, inl, inr, length, length-set, lt_of_not-le, cond, Bool, true, false, not, refl, set, subst, sym, ⊎_elim}
 use mathlib.Core.Logic.{dite}
-use mathlib.Core.Option.{none, some, some-injective}
-use mathlib.Core.Option as maybe
+use mathlib.Core.Option.{none, some}
 use native.Mathlib.Decide.{ℕ_discrete, dec_le}
 use lib.ListN.{get_elem?}
 use lib.Seq.{set-get_or}
@@ -10,12 +9,11 @@ use Rattle.atomic_table.specs.Table.{Allows, Me, State, keeps, step}
 use Rattle.atomic_table.proofs.Lists.{set_here, set_else}
 use Rattle.nvm_model.specs.Event.{phase_of}
 use Rattle.nvm_model.proofs.PlaceLemmas.{phase_of-add}
-use Rattle.log_rule.specs.declared.view.Desk.{Desk}
 use Rattle.log_rule.specs.declared.view.View.{View}
-use Rattle.log_rule.specs.Places.{Place, Free, Pending, GivenUp, Published, IsPublished, content, posted_by, tag, word_or}
-use Rattle.log_rule.specs.Plays.{drawn, drawing, finding, found, looked, looking, missing}
+use Rattle.log_rule.specs.Places.{Place, Published, IsPublished, content, posted_by, tag, word_or}
+use Rattle.log_rule.specs.Plays.{finding, found, looked, looking, missing}
 use Rattle.log_rule.specs.Rule.{Holds, IsLogTable, Knows, Leads, losses, mark_for, no_desk, purse, total}
-use Rattle.log_rule.proofs.Lists.{each_set, one_value, put, put-all, put-other, put-same, some_length, term_le, total-set}
+use Rattle.log_rule.proofs.Lists.{each_set, one_value, some_length, total-set}
 use Rattle.log_rule.proofs.PlaceLemmas.{few_kinds, hollow, is_filled, is_published, kind, no_published, owner, published_is, told_set, word_is}
 
 -- a view keeps what the rule says of its places
@@ -88,45 +86,45 @@ module _ {S : Type 0} (n h t : ℕ) (start : ℕ → ℕ) (good : ℕ → Type 0
       let knew = o.knows j v me in
       let rest = o.holds in
       stands s o j v w s.words o.places me
-          (record {
-            wide = rest.wide;
-            head = rest.head;
-            tail = rest.tail;
-            before = rest.before;
-            beyond = rest.beyond;
-            drawn = rest.drawn;
-            below = rest.below;
-            near = rest.near;
-            cells = rest.cells;
-            phases = rest.phases;
-            sound = rest.sound;
-            given = λ p e. let g = rest.given p e in (g.0, told_set s.views j p v w me (λ x. subst (λ l. Rattle.log_rule.specs.Rule.TellsLost p l) (sym same.lost) x) g.1);
-            pending = λ p i e. let g = rest.pending p i e in dite (ℕ_discrete i j)
-                (λ q. (w, ap (get_elem? (set s.views j w)) q ∙ set_here s.views j w (some_length s.views j v me), same.pending ∙ (ap (λ (z : View). z.pending) (one_value s.views j v g.0 me (ap (get_elem? s.views) (sym q) ∙ g.1)) ∙ g.2)))
-                (λ ne. (g.0, set_else s.views j i w ne ∙ g.1, g.2));
-          })
-          (record {
-            number = λ l. same.number ∙ knew.number live;
-            posted = λ l. same.posted ∙ knew.posted live;
-            out = λ l. knew.out live;
-            gone = λ l. absurd (l (same.live ∙ live));
-            pending = λ p e. knew.pending p (sym same.pending ∙ e);
-            head = head;
-            lost = subst (Rattle.log_rule.specs.Rule.AreLost n o.places) (sym same.lost) knew.lost;
-          })
-          (λ k u ne at. o.knows k u at)
-          (λ e. let lead = first_is s o v (ap (get_elem? s.views) (sym e) ∙ me) in record {
-            live = same.live ∙ live;
-            desks_are = same.desks ∙ lead.desks_are;
-            few = omega (arith, lead.few, same.seats);
-            head = first e;
-            seen = seen e;
-            taken = same.taken ∙ lead.taken;
-          })
-          (λ f ne at. first_is s o f at)
-          (λ k ne. refl) (λ pos. live)
-          (o.marked ∙ ap mark_for (omega (arith, total-set losses s.views j v w me, ap length same.lost)))
-          (omega (arith, same.budget, same.seats))
+      (record {
+        wide = rest.wide;
+        head = rest.head;
+        tail = rest.tail;
+        before = rest.before;
+        beyond = rest.beyond;
+        drawn = rest.drawn;
+        below = rest.below;
+        near = rest.near;
+        cells = rest.cells;
+        phases = rest.phases;
+        sound = rest.sound;
+        given = λ p e. let g = rest.given p e in (g.0, told_set s.views j p v w me (λ x. subst (λ l. Rattle.log_rule.specs.Rule.TellsLost p l) (sym same.lost) x) g.1);
+        pending = λ p i e. let g = rest.pending p i e in dite (ℕ_discrete i j)
+            (λ q. (w, ap (get_elem? (set s.views j w)) q ∙ set_here s.views j w (some_length s.views j v me), same.pending ∙ (ap (λ (z : View). z.pending) (one_value s.views j v g.0 me (ap (get_elem? s.views) (sym q) ∙ g.1)) ∙ g.2)))
+            (λ ne. (g.0, set_else s.views j i w ne ∙ g.1, g.2));
+      })
+      (record {
+        number = λ l. same.number ∙ knew.number live;
+        posted = λ l. same.posted ∙ knew.posted live;
+        out = λ l. knew.out live;
+        gone = λ l. absurd (l (same.live ∙ live));
+        pending = λ p e. knew.pending p (sym same.pending ∙ e);
+        head = head;
+        lost = subst (Rattle.log_rule.specs.Rule.AreLost n o.places) (sym same.lost) knew.lost;
+      })
+      (λ k u ne at. o.knows k u at)
+      (λ e. let lead = first_is s o v (ap (get_elem? s.views) (sym e) ∙ me) in record {
+        live = same.live ∙ live;
+        desks_are = same.desks ∙ lead.desks_are;
+        few = omega (arith, lead.few, same.seats);
+        head = first e;
+        seen = seen e;
+        taken = same.taken ∙ lead.taken;
+      })
+      (λ f ne at. first_is s o f at)
+      (λ k ne. refl) (λ pos. live)
+      (o.marked ∙ ap mark_for (omega (arith, total-set losses s.views j v w me, ap length same.lost)))
+      (omega (arith, same.budget, same.seats))
 
   -- the word that is looked at stays
   pub looks_on : (s : State S View) (i : ℕ) (vs : List View) → Ruled (with_words s s.words vs) → Ruled (with_words s (set s.words i (get_or s.words i 0)) vs)
@@ -153,20 +151,20 @@ module _ {S : Type 0} (n h t : ℕ) (start : ℕ → ℕ) (good : ℕ → Type 0
       let x : Place = o.places front in
       let past : Place = o.places (front - n) in
       dite (ℕ_discrete (kind x) 3)
-          (λ full.
-          let there = is_filled x full in
-          let word : word_or x 0 ≡ r = word_is x 0 (word_or past 0) there ∙ sym is in
-          let at : x ≡ Published (owner x) r = published_is x there ∙ ap (Published (owner x)) word in
-          inl (there, word, (rest.sound front (owner x) r at (omega (arith, rest.head))).0, rest.phases front (owner x) r at (omega (arith, near, rest.head))))
-          (λ free.
-          let few = few_kinds x free in
-          let old = rest.below (front - n) (omega (arith, rest.head, back)) in
-          let word : word_or past 0 ≡ r = sym (is ∙ hollow x (word_or past 0) few) in
-          let late : t ≤ front = le_of_not_lt front t (λ lt. no_published x (is_published x 0 (start (front % n)) (rest.before front lt)) few) in
-          let was : tag r ≡ phase_of n (front - n) = rest.phases (front - n) (owner past) r (published_is past old ∙ ap (Published (owner past)) word) (omega (arith, late)) in
-          let on : front ≡ front - n + n = omega (arith, rest.head, back) in
-          let turned : phase_of n front ≡ not (phase_of n (front - n)) = ap (phase_of n) on ∙ phase_of-add n (front - n) cells in
-          inr (λ e. not_own (phase_of n (front - n)) (sym was ∙ (e ∙ turned))))
+      (λ full.
+      let there = is_filled x full in
+      let word : word_or x 0 ≡ r = word_is x 0 (word_or past 0) there ∙ sym is in
+      let at : x ≡ Published (owner x) r = published_is x there ∙ ap (Published (owner x)) word in
+      inl (there, word, (rest.sound front (owner x) r at (omega (arith, rest.head))).0, rest.phases front (owner x) r at (omega (arith, near, rest.head))))
+      (λ free.
+      let few = few_kinds x free in
+      let old = rest.below (front - n) (omega (arith, rest.head, back)) in
+      let word : word_or past 0 ≡ r = sym (is ∙ hollow x (word_or past 0) few) in
+      let late : t ≤ front = le_of_not_lt front t (λ lt. no_published x (is_published x 0 (start (front % n)) (rest.before front lt)) few) in
+      let was : tag r ≡ phase_of n (front - n) = rest.phases (front - n) (owner past) r (published_is past old ∙ ap (Published (owner past)) word) (omega (arith, late)) in
+      let on : front ≡ front - n + n = omega (arith, rest.head, back) in
+      let turned : phase_of n front ≡ not (phase_of n (front - n)) = ap (phase_of n) on ∙ phase_of-add n (front - n) cells in
+      inr (λ e. not_own (phase_of n (front - n)) (sym was ∙ (e ∙ turned))))
 
   pub finds : (slots id : ℕ) (m : Me S View) (head i : ℕ) → id ≡ 0 → m.0.live ≡ 1 → m.0.head ≡ head + 1 → m.0.seen ≡ 0 → 0 < n → n ≤ h → t ≤ h + n → i ≡ head % n + 3
       → Allows Ruled slots id m i (λ y. y) (found good n (step slots i 0 0 none) m)
@@ -182,22 +180,22 @@ module _ {S : Type 0} (n h t : ℕ) (start : ℕ → ℕ) (good : ℕ → Type 0
       let w : View = finding m.0 r in
       let u : View = missing m.0 r in
       ⊎_elim
-          (λ (f : IsPublished (o.places front) × (word_or (o.places front) 0 ≡ r) × good r × (tag r ≡ phase_of n front)). (
-            w,
-            keeps,
-            tt,
-            looks_on s i (set s.views id w) (viewed s o id m.0 w me live
-                (record { number = refl; live = refl; pending = refl; budget = refl; seats = refl; posted = refl; taken = refl; lost = refl; desks = refl })
-                (omega (arith, is, here)) (λ e k q. lead.head k q) (λ e x q. (f.0, f.1 ∙ omega (arith, q)))),
-            ((λ e. (refl, f.2)), (λ ne. absurd (ne (f.3 ∙ sym phase)))),
-          ))
-          (λ (ne : tag r ≢ phase_of n front). (
-            u,
-            keeps,
-            tt,
-            looks_on s i (set s.views id u) (viewed s o id m.0 u me live
-                (record { number = refl; live = refl; pending = refl; budget = refl; seats = refl; posted = refl; taken = refl; lost = refl; desks = refl })
-                (omega arith) (λ e k q. absurd (omega (arith, q))) (λ e x q. absurd (omega (arith, q, blind)))),
-            ((λ e. absurd (ne (e ∙ phase))), (λ _. refl)),
-          ))
-          (at_head s o r cell cells back near)
+      (λ (f : IsPublished (o.places front) × (word_or (o.places front) 0 ≡ r) × good r × (tag r ≡ phase_of n front)). (
+        w,
+        keeps,
+        tt,
+        looks_on s i (set s.views id w) (viewed s o id m.0 w me live
+            (record { number = refl; live = refl; pending = refl; budget = refl; seats = refl; posted = refl; taken = refl; lost = refl; desks = refl })
+            (omega (arith, is, here)) (λ e k q. lead.head k q) (λ e x q. (f.0, f.1 ∙ omega (arith, q)))),
+        ((λ e. (refl, f.2)), (λ ne. absurd (ne (f.3 ∙ sym phase)))),
+      ))
+      (λ (ne : tag r ≢ phase_of n front). (
+        u,
+        keeps,
+        tt,
+        looks_on s i (set s.views id u) (viewed s o id m.0 u me live
+            (record { number = refl; live = refl; pending = refl; budget = refl; seats = refl; posted = refl; taken = refl; lost = refl; desks = refl })
+            (omega arith) (λ e k q. absurd (omega (arith, q))) (λ e x q. absurd (omega (arith, q, blind)))),
+        ((λ e. absurd (ne (e ∙ phase))), (λ _. refl)),
+      ))
+      (at_head s o r cell cells back near)

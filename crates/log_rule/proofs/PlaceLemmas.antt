@@ -1,5 +1,5 @@
 -- Positions, and what changes where one of them does.
-use Rattle.std.proofs.Common.{◌≡◌, ◌≢◌, ◌⊎◌, ℕ, zero, suc, ◌+◌, ◌-◌, ◌<◌, ◌≤◌, List, [], ◌∷◌, ◌++◌, append-nil, append_assoc, ap, ◌∙◌, arith, cond, eqb, eq-eqb, ne_eqb, inl, inr, refl, set, subst, sym, ⊎_elim}
+use Rattle.std.proofs.Common.{◌≡◌, ◌≢◌, ℕ, zero, suc, ◌+◌, ◌-◌, ◌<◌, ◌≤◌, List, [], ◌∷◌, ◌++◌, append-nil, ap, ◌∙◌, arith, cond, eq-eqb, ne_eqb, inl, inr, refl, set, subst, sym, ⊎_elim}
 use mathlib.Core.Logic.{dite}
 use mathlib.Core.Option.{some, some-injective}
 use native.Mathlib.Decide.{ℕ_discrete}
@@ -10,7 +10,7 @@ use Rattle.log_rule.specs.declared.view.Lost.{Lost}
 use Rattle.log_rule.specs.declared.view.View.{View}
 use Rattle.log_rule.specs.Places.{Place, Free, Pending, GivenUp, Published, IsPublished, content, entry, entry_by, posted_by, word_or, words_from}
 use Rattle.log_rule.specs.Rule.{AreLost, IsTold, TellsLost}
-use Rattle.log_rule.proofs.Lists.{put, put-all, put-other, some_length}
+use Rattle.log_rule.proofs.Lists.{put, put-all, some_length}
 
 -- The kinds of places are apart.
 abbrev pub kind : Place → ℕ

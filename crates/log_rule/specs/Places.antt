@@ -1,5 +1,5 @@
 -- Positions of the log count from 0 on and never wrap. Position p is due to the cell p modulo the number of cells.
-use Rattle.std.specs.Prelude.{◌≡◌, ℕ, zero, suc, ◌+◌, ◌-◌, ◌==◌, Bool, cond, List, [], ◌∷◌, ◌++◌, nat_le}
+use Rattle.std.specs.Prelude.{ℕ, zero, suc, ◌+◌, ◌-◌, ◌==◌, Bool, cond, List, [], ◌∷◌, ◌++◌, nat_le}
 use Rattle.log_rule.specs.declared.view.Entry.{Entry}
 
 -- What became of a position: not drawn, drawn by a seat that has to fill it, given up, or filled by a seat with a word.

@@ -1,5 +1,5 @@
 -- What each step on a log's table tells: of the step, the seat before, the number found and the seat after.
-use Rattle.std.specs.Prelude.{◌≡◌, ◌≢◌, ℕ, ◌+◌, ◌-◌, ◌<◌, ◌≤◌, List, [], ◌∷◌, ◌++◌, length, slice_set, Bool}
+use Rattle.std.specs.Prelude.{◌≡◌, ◌≢◌, ℕ, ◌+◌, ◌-◌, ◌<◌, [], ◌∷◌, ◌++◌, length, slice_set}
 use Rattle.atomic_table.specs.Table.{Me, Step}
 use Rattle.nvm_model.specs.Event.{phase_of}
 use Rattle.log_rule.specs.Places.{entry, tag}
