@@ -106,6 +106,8 @@ module _ {S : Type 0} (n h t : ℕ) (start : ℕ → ℕ) (good : ℕ → Type 0
       })
       (record {
         number = knew.number;
+        cells = knew.cells;
+        from = λ l. absurd (omega (arith, l));
         posted = λ l. knew.posted l ∙ sym (longer id);
         out = knew.out;
         gone = λ l. absurd (l live);
@@ -115,6 +117,8 @@ module _ {S : Type 0} (n h t : ℕ) (start : ℕ → ℕ) (good : ℕ → Type 0
       })
       (λ j u ne at. let k = o.knows j u at in record {
         number = k.number;
+        cells = k.cells;
+        from = k.from;
         posted = λ l. k.posted l ∙ sym (longer j);
         out = k.out;
         gone = k.gone;
@@ -135,8 +139,8 @@ module _ {S : Type 0} (n h t : ℕ) (start : ℕ → ℕ) (good : ℕ → Type 0
       the A a = a
 
   -- the drawn position is given up, since the head that was loaded leaves no cell for it
-  pub loses : (slots id : ℕ) (m : Me S View) (p head : ℕ) → m.0.live ≡ 1 → m.0.pending ≡ p + 1 → m.0.head ≡ head + 1 → head + n ≤ p → h ≤ head → Allows (Ruled n h t start good) slots id m 2 (λ _. 1) (lost (step slots 2 1 0 none) m)
-  loses slots id m p head live pends seen full late s o wide me low =
+  pub loses : (slots id : ℕ) (m : Me S View) (p head : ℕ) → m.0.live ≡ 1 → m.0.pending ≡ p + 1 → m.0.head ≡ head + 1 → head + n ≤ p → Allows (Ruled n h t start good) slots id m 2 (λ _. 1) (lost (step slots 2 1 0 none) m)
+  loses slots id m p head live pends seen full s o wide me low =
       let v : View = m.0 in
       let w : View = losing v in
       let note : List Lost = record { at = v.pending - 1; head = v.head - 1 } ∷ [] in
@@ -171,7 +175,7 @@ module _ {S : Type 0} (n h t : ℕ) (start : ℕ → ℕ) (good : ℕ → Type 0
         phases = λ q j x e from. rest.phases q j x (wrote q j x e) from;
         sound = λ q j x e from. rest.sound q j x (wrote q j x e) from;
         given = λ q. put-all (λ (i : ℕ) (z : Place). z ≡ GivenUp → (h + n ≤ i) × IsTold (set s.views id w) i) o.places p GivenUp q
-            (λ _. (omega (arith, full, late), (id, w, set_here s.views id w (some_length s.views id v me), lasts)))
+            (λ _. (omega (arith, full, knew.from (omega (arith, seen)), seen), (id, w, set_here s.views id w (some_length s.views id v me), lasts)))
             (λ ne e. let g = rest.given q e in (g.0, told_set s.views id q v w me (tells_left q v.lost _) g.1));
         pending = λ q i e. let is = waits q i e in let g = rest.pending q i is.1 in (
           g.0,
@@ -181,6 +185,8 @@ module _ {S : Type 0} (n h t : ℕ) (start : ℕ → ℕ) (good : ℕ → Type 0
       })
       (record {
         number = knew.number;
+        cells = knew.cells;
+        from = λ l. absurd (omega (arith, l));
         posted = λ l. knew.posted l ∙ sym (posts id);
         out = knew.out;
         gone = λ l. absurd (l live);
@@ -190,6 +196,8 @@ module _ {S : Type 0} (n h t : ℕ) (start : ℕ → ℕ) (good : ℕ → Type 0
       })
       (λ j u ne there. let k = o.knows j u there in record {
         number = k.number;
+        cells = k.cells;
+        from = k.from;
         posted = λ l. k.posted l ∙ sym (posts j);
         out = k.out;
         gone = k.gone;

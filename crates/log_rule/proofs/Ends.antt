@@ -48,7 +48,7 @@ kinds (Published j w) = inl tt
 module _ {S : Type 0} (n h t : ℕ) (start : ℕ → ℕ) (good : ℕ → Type 0) where
   pub opens : (ws : List ℕ) (xs : List S) → length ws ≡ n + 3 → get_or ws 0 0 ≡ t → get_or ws 1 0 ≡ h → get_or ws 2 0 ≡ 0 → ((c : ℕ) → get_or ws (c + 3) 0 ≡ start c)
       → 0 < n → n ≤ h → h ≤ t → t ≤ h + n → ((p : ℕ) → p < t → t ≤ p + n → tag (start (p % n)) ≡ phase_of n p) → ((p : ℕ) → h ≤ p → p < t → good (start (p % n)))
-      → Ruled n h t start good (opening ws xs opener)
+      → Ruled n h t start good (opening ws xs (opener n))
   opens ws xs wide tail head mark cells some-cells far order near phases sound =
       let P : ℕ → Place = begun n start t in
       let inside : (p j w : ℕ) → P p ≡ Published j w → p < t = λ p j w e. dite (dec_le t p) (λ le. absurd (omega (arith, ap kind (sym (begun-out n start t p le) ∙ e)))) (λ gt. lt_of_not-le gt) in
@@ -75,8 +75,10 @@ module _ {S : Type 0} (n h t : ℕ) (start : ℕ → ℕ) (good : ℕ → Type 0
           given = λ p e. absurd (never p 2 (omega arith) (omega arith) (ap kind e));
           pending = λ p j e. absurd (never p 1 (omega arith) (omega arith) (ap kind e));
         };
-        knows = only_one (λ j u. Knows n t (get_or ws 0 0) (get_or ws 1 0) P [] j u) opener (record {
+        knows = only_one (λ j u. Knows n h t (get_or ws 0 0) (get_or ws 1 0) P [] j u) (opener n) (record {
           number = λ l. refl;
+          cells = λ l. refl;
+          from = λ l. absurd (omega (arith, l));
           posted = λ l. sym (ap (posted_by P 0 t) (the (get_or ws 0 0 - t ≡ 0) (omega (arith, tail))));
           out = λ l pos. absurd (omega (arith, pos));
           gone = λ l. (refl, refl);
@@ -85,7 +87,7 @@ module _ {S : Type 0} (n h t : ℕ) (start : ℕ → ℕ) (good : ℕ → Type 0
           lost = tt;
         });
         lead = (
-          opener,
+          opener n,
           refl,
           record {
             live = refl;

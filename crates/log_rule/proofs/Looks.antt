@@ -19,6 +19,7 @@ use Rattle.log_rule.proofs.PlaceLemmas.{few_kinds, hollow, is_filled, is_publish
 -- a view keeps what the rule says of its places
 pub record Same (v w : View) : Type 0 where
   pub number : w.number ≡ v.number
+  pub cells : w.cells ≡ v.cells
   pub live : w.live ≡ v.live
   pub pending : w.pending ≡ v.pending
   pub budget : w.budget ≡ v.budget
@@ -38,6 +39,30 @@ not_own : (b : Bool) → b ≡ not b → ⊥
 not_own true e = absurd (omega (arith, ap {B = ℕ} (λ c. cond c 0 1) e))
 not_own false e = absurd (omega (arith, ap {B = ℕ} (λ c. cond c 0 1) e))
 
+module _ (n h t : ℕ) (start : ℕ → ℕ) (good : ℕ → Type 0) where
+  -- an entry stands at a position in the window, or its cell has the old phase
+  pub at_place : {words : List ℕ} {views : List View} {seats : ℕ} {P : ℕ → Place} (rest : Holds n h t start good words views seats P) (p r : ℕ)
+      → get_or words 1 0 ≤ p → p < get_or words 1 0 + n → r ≡ content n P p → 0 < n → n ≤ h → t ≤ h + n
+      → (IsPublished (P p) × (word_or (P p) 0 ≡ r) × good r × (tag r ≡ phase_of n p)) ⊎ (tag r ≢ phase_of n p)
+  at_place {words} {views} {seats} {P} rest p r ahead inside is cells back near =
+      let x : Place = P p in
+      let past : Place = P (p - n) in
+      dite (ℕ_discrete (kind x) 3)
+      (λ full.
+      let there = is_filled x full in
+      let word : word_or x 0 ≡ r = word_is x 0 (word_or past 0) there ∙ sym is in
+      let at : x ≡ Published (owner x) r = published_is x there ∙ ap (Published (owner x)) word in
+      inl (there, word, (rest.sound p (owner x) r at (omega (arith, rest.head, ahead))).0, rest.phases p (owner x) r at (omega (arith, near, rest.head, ahead))))
+      (λ free.
+      let few = few_kinds x free in
+      let old = rest.below (p - n) (omega (arith, rest.head, back, inside, ahead)) in
+      let word : word_or past 0 ≡ r = sym (is ∙ hollow x (word_or past 0) few) in
+      let late : t ≤ p = le_of_not_lt p t (λ lt. no_published x (is_published x 0 (start (p % n)) (rest.before p lt)) few) in
+      let was : tag r ≡ phase_of n (p - n) = rest.phases (p - n) (owner past) r (published_is past old ∙ ap (Published (owner past)) word) (omega (arith, late)) in
+      let on : p ≡ p - n + n = omega (arith, rest.head, back, ahead) in
+      let turned : phase_of n p ≡ not (phase_of n (p - n)) = ap (phase_of n) on ∙ phase_of-add n (p - n) cells in
+      inr (λ e. not_own (phase_of n (p - n)) (sym was ∙ (e ∙ turned))))
+
 module _ {S : Type 0} (n h t : ℕ) (start : ℕ → ℕ) (good : ℕ → Type 0) where
   abbrev pub Ruled : State S View → Type 0
   Ruled = IsLogTable n h t start good
@@ -51,8 +76,8 @@ module _ {S : Type 0} (n h t : ℕ) (start : ℕ → ℕ) (good : ℕ → Type 0
 
   -- a step of the seat j leaves a table that keeps the rule
   pub stands : (s : State S View) (o : Ruled s) (j : ℕ) (v w : View) (ws : List ℕ) (P : ℕ → Place) → get_elem? s.views j ≡ some v
-      → Holds n h t start good ws (set s.views j w) (length o.desks) P → Knows n t (get_or ws 0 0) (get_or ws 1 0) P o.desks j w
-      → ((k : ℕ) (u : View) → k ≢ j → get_elem? s.views k ≡ some u → Knows n t (get_or ws 0 0) (get_or ws 1 0) P o.desks k u)
+      → Holds n h t start good ws (set s.views j w) (length o.desks) P → Knows n h t (get_or ws 0 0) (get_or ws 1 0) P o.desks j w
+      → ((k : ℕ) (u : View) → k ≢ j → get_elem? s.views k ≡ some u → Knows n h t (get_or ws 0 0) (get_or ws 1 0) P o.desks k u)
       → (j ≡ 0 → Leads h (get_or ws 1 0) P o.desks w)
       → ((f : View) → j ≢ 0 → get_elem? s.views 0 ≡ some f → Leads h (get_or ws 1 0) P o.desks f)
       → ((k : ℕ) → k + 1 ≢ j → posted_by P (k + 1) t (get_or ws 0 0 - t) ≡ posted_by o.places (k + 1) t (get_or s.words 0 0 - t))
@@ -64,7 +89,7 @@ module _ {S : Type 0} (n h t : ℕ) (start : ℕ → ℕ) (good : ℕ → Type 0
         places = P;
         desks = o.desks;
         holds = rest;
-        knows = each_set (λ k u. Knows n t (get_or ws 0 0) (get_or ws 1 0) P o.desks k u) s.views j w mine others;
+        knows = each_set (λ k u. Knows n h t (get_or ws 0 0) (get_or ws 1 0) P o.desks k u) s.views j w mine others;
         lead = dite (ℕ_discrete 0 j)
             (λ e. (w, ap (get_elem? (set s.views j w)) e ∙ here, first (sym e)))
             (λ ne. (o.lead.0, set_else s.views j 0 w ne ∙ o.lead.1, other o.lead.0 (λ e. ne (sym e)) o.lead.1));
@@ -79,10 +104,10 @@ module _ {S : Type 0} (n h t : ℕ) (start : ℕ → ℕ) (good : ℕ → Type 0
       the A a = a
 
   pub viewed : (s : State S View) (o : Ruled s) (j : ℕ) (v w : View) → get_elem? s.views j ≡ some v → v.live ≡ 1 → Same v w
-      → w.head ≤ get_or s.words 1 0 + 1 → (j ≡ 0 → (k : ℕ) → w.head ≡ k + 1 → k ≡ get_or s.words 1 0)
+      → w.head ≤ get_or s.words 1 0 + 1 → (0 < w.head → h < w.head) → (j ≡ 0 → (k : ℕ) → w.head ≡ k + 1 → k ≡ get_or s.words 1 0)
       → (j ≡ 0 → (x : ℕ) → w.seen ≡ x + 1 → IsPublished (o.places (get_or s.words 1 0)) × (word_or (o.places (get_or s.words 1 0)) 0 ≡ x))
       → Ruled (with_words s s.words (set s.views j w))
-  viewed s o j v w me live same head first seen =
+  viewed s o j v w me live same head from first seen =
       let knew = o.knows j v me in
       let rest = o.holds in
       stands s o j v w s.words o.places me
@@ -105,6 +130,8 @@ module _ {S : Type 0} (n h t : ℕ) (start : ℕ → ℕ) (good : ℕ → Type 0
       })
       (record {
         number = λ l. same.number ∙ knew.number live;
+        cells = λ l. same.cells ∙ knew.cells live;
+        from = from;
         posted = λ l. same.posted ∙ knew.posted live;
         out = λ l. knew.out live;
         gone = λ l. absurd (l (same.live ∙ live));
@@ -137,37 +164,13 @@ module _ {S : Type 0} (n h t : ℕ) (start : ℕ → ℕ) (good : ℕ → Type 0
         keeps,
         tt,
         looks_on s 1 (set s.views id w) (viewed s o id m.0 w me live
-            (record { number = refl; live = refl; pending = refl; budget = refl; seats = refl; posted = refl; taken = refl; lost = refl; desks = refl })
-            (omega arith) (λ e k is. omega arith) (λ e x is. absurd (omega (arith, is, blind)))),
+            (record { number = refl; cells = refl; live = refl; pending = refl; budget = refl; seats = refl; posted = refl; taken = refl; lost = refl; desks = refl })
+            (omega arith) (λ _. omega (arith, o.holds.head)) (λ e k is. omega arith) (λ e x is. absurd (omega (arith, is, blind)))),
         (refl, omega (arith, o.bound, o.holds.head)),
       )
 
-  -- an entry stands at the head, or none does
-  at_head : (s : State S View) (o : Ruled s) (r : ℕ) → r ≡ content n o.places (get_or s.words 1 0) → 0 < n → n ≤ h → t ≤ h + n →
-      (IsPublished (o.places (get_or s.words 1 0)) × (word_or (o.places (get_or s.words 1 0)) 0 ≡ r) × good r × (tag r ≡ phase_of n (get_or s.words 1 0))) ⊎ (tag r ≢ phase_of n (get_or s.words 1 0))
-  at_head s o r is cells back near =
-      let rest = o.holds in
-      let front : ℕ = get_or s.words 1 0 in
-      let x : Place = o.places front in
-      let past : Place = o.places (front - n) in
-      dite (ℕ_discrete (kind x) 3)
-      (λ full.
-      let there = is_filled x full in
-      let word : word_or x 0 ≡ r = word_is x 0 (word_or past 0) there ∙ sym is in
-      let at : x ≡ Published (owner x) r = published_is x there ∙ ap (Published (owner x)) word in
-      inl (there, word, (rest.sound front (owner x) r at (omega (arith, rest.head))).0, rest.phases front (owner x) r at (omega (arith, near, rest.head))))
-      (λ free.
-      let few = few_kinds x free in
-      let old = rest.below (front - n) (omega (arith, rest.head, back)) in
-      let word : word_or past 0 ≡ r = sym (is ∙ hollow x (word_or past 0) few) in
-      let late : t ≤ front = le_of_not_lt front t (λ lt. no_published x (is_published x 0 (start (front % n)) (rest.before front lt)) few) in
-      let was : tag r ≡ phase_of n (front - n) = rest.phases (front - n) (owner past) r (published_is past old ∙ ap (Published (owner past)) word) (omega (arith, late)) in
-      let on : front ≡ front - n + n = omega (arith, rest.head, back) in
-      let turned : phase_of n front ≡ not (phase_of n (front - n)) = ap (phase_of n) on ∙ phase_of-add n (front - n) cells in
-      inr (λ e. not_own (phase_of n (front - n)) (sym was ∙ (e ∙ turned))))
-
   pub finds : (slots id : ℕ) (m : Me S View) (head i : ℕ) → id ≡ 0 → m.0.live ≡ 1 → m.0.head ≡ head + 1 → m.0.seen ≡ 0 → 0 < n → n ≤ h → t ≤ h + n → i ≡ head % n + 3
-      → Allows Ruled slots id m i (λ y. y) (found good n (step slots i 0 0 none) m)
+      → Allows Ruled slots id m i (λ y. y) (found good (step slots i 0 0 none) m)
   finds slots id m head i zeroth live is blind cells back near at s o wide me low =
       let rest = o.holds in
       let r : ℕ = get_or s.words i 0 in
@@ -176,7 +179,7 @@ module _ {S : Type 0} (n h t : ℕ) (start : ℕ → ℕ) (good : ℕ → Type 0
       let here : head ≡ front = lead.head head is in
       let cell : r ≡ content n o.places front = ap (λ (k : ℕ). get_or s.words k 0) (at ∙ ap (λ (k : ℕ). k % n + 3) here) ∙ rest.cells front (omega arith) (omega (arith, cells)) in
       let read : m.0.head - 1 ≡ front = omega (arith, is, here) in
-      let phase : phase_of n (m.0.head - 1) ≡ phase_of n front = ap (phase_of n) read in
+      let phase : phase_of m.0.cells (m.0.head - 1) ≡ phase_of n front = ap (λ (k : ℕ). phase_of k (m.0.head - 1)) ((o.knows id m.0 me).cells live) ∙ ap (phase_of n) read in
       let w : View = finding m.0 r in
       let u : View = missing m.0 r in
       ⊎_elim
@@ -185,8 +188,8 @@ module _ {S : Type 0} (n h t : ℕ) (start : ℕ → ℕ) (good : ℕ → Type 0
         keeps,
         tt,
         looks_on s i (set s.views id w) (viewed s o id m.0 w me live
-            (record { number = refl; live = refl; pending = refl; budget = refl; seats = refl; posted = refl; taken = refl; lost = refl; desks = refl })
-            (omega (arith, is, here)) (λ e k q. lead.head k q) (λ e x q. (f.0, f.1 ∙ omega (arith, q)))),
+            (record { number = refl; cells = refl; live = refl; pending = refl; budget = refl; seats = refl; posted = refl; taken = refl; lost = refl; desks = refl })
+            (omega (arith, is, here)) (o.knows id m.0 me).from (λ e k q. lead.head k q) (λ e x q. (f.0, f.1 ∙ omega (arith, q)))),
         ((λ e. (refl, f.2)), (λ ne. absurd (ne (f.3 ∙ sym phase)))),
       ))
       (λ (ne : tag r ≢ phase_of n front). (
@@ -194,8 +197,8 @@ module _ {S : Type 0} (n h t : ℕ) (start : ℕ → ℕ) (good : ℕ → Type 0
         keeps,
         tt,
         looks_on s i (set s.views id u) (viewed s o id m.0 u me live
-            (record { number = refl; live = refl; pending = refl; budget = refl; seats = refl; posted = refl; taken = refl; lost = refl; desks = refl })
-            (omega arith) (λ e k q. absurd (omega (arith, q))) (λ e x q. absurd (omega (arith, q, blind)))),
+            (record { number = refl; cells = refl; live = refl; pending = refl; budget = refl; seats = refl; posted = refl; taken = refl; lost = refl; desks = refl })
+            (omega arith) (λ l. absurd (omega (arith, l))) (λ e k q. absurd (omega (arith, q))) (λ e x q. absurd (omega (arith, q, blind)))),
         ((λ e. absurd (ne (e ∙ phase))), (λ _. refl)),
       ))
-      (at_head s o r cell cells back near)
+      (at_place n h t start good rest front r (omega arith) (omega (arith, cells)) cell cells back near)

@@ -87,6 +87,8 @@ module _ {S : Type 0} (n h t : ℕ) (start : ℕ → ℕ) (good : ℕ → Type 0
       })
       (record {
         number = knew.number;
+        cells = knew.cells;
+        from = λ l. absurd (omega (arith, l));
         posted = grown;
         out = knew.out;
         gone = λ l. absurd (l live);
@@ -96,6 +98,8 @@ module _ {S : Type 0} (n h t : ℕ) (start : ℕ → ℕ) (good : ℕ → Type 0
       })
       (λ j u ne is. let k = o.knows j u is in record {
         number = k.number;
+        cells = k.cells;
+        from = k.from;
         posted = λ l. k.posted l ∙ sym (elses j ne);
         out = k.out;
         gone = k.gone;
@@ -163,6 +167,8 @@ module _ {S : Type 0} (n h t : ℕ) (start : ℕ → ℕ) (good : ℕ → Type 0
       })
       (record {
         number = knew.number;
+        cells = knew.cells;
+        from = λ l. absurd (omega (arith, l));
         posted = λ l. knew.posted l ∙ sym (posts' id);
         out = knew.out;
         gone = λ l. absurd (l live);
@@ -172,6 +178,8 @@ module _ {S : Type 0} (n h t : ℕ) (start : ℕ → ℕ) (good : ℕ → Type 0
       })
       (λ j u ne at. let k = o.knows j u at in record {
         number = k.number;
+        cells = k.cells;
+        from = k.from;
         posted = λ l. k.posted l ∙ sym (posts' j);
         out = k.out;
         gone = k.gone;

@@ -94,11 +94,13 @@ module _ {S : Type 0} (n h t : ℕ) (start : ℕ → ℕ) (good : ℕ → Type 0
               (λ ne. (g.0, at_longer (set s.views 0 w) (x ∷ []) j g.0 (set_else s.views 0 j w ne ∙ g.1), g.2));
         };
         knows = λ k u at. ⊎_elim
-            (λ (old : get_elem? (set s.views 0 w) k ≡ some u). each_set (λ k u. Knows n t (get_or s.words 0 0) (get_or s.words 1 0) o.places desks k u) s.views 0 w
-            (record { number = knew.number; posted = knew.posted; out = λ l pos. absurd (omega (arith, pos)); gone = knew.gone; pending = knew.pending; head = knew.head; lost = knew.lost })
-            (λ k u ne at. let g = o.knows k u at in record { number = g.number; posted = g.posted; out = λ l pos. out_more o.desks (k - 1) ∙ g.out l pos; gone = g.gone; pending = g.pending; head = g.head; lost = g.lost }) k u old)
-            (λ (new : (k ≡ length (set s.views 0 w)) × (x ≡ u)). subst (λ (u : View). Knows n t (get_or s.words 0 0) (get_or s.words 1 0) o.places desks k u) new.1 (record {
+            (λ (old : get_elem? (set s.views 0 w) k ≡ some u). each_set (λ k u. Knows n h t (get_or s.words 0 0) (get_or s.words 1 0) o.places desks k u) s.views 0 w
+            (record { number = knew.number; cells = knew.cells; from = knew.from; posted = knew.posted; out = λ l pos. absurd (omega (arith, pos)); gone = knew.gone; pending = knew.pending; head = knew.head; lost = knew.lost })
+            (λ k u ne at. let g = o.knows k u at in record { number = g.number; cells = g.cells; from = g.from; posted = g.posted; out = λ l pos. out_more o.desks (k - 1) ∙ g.out l pos; gone = g.gone; pending = g.pending; head = g.head; lost = g.lost }) k u old)
+            (λ (new : (k ≡ length (set s.views 0 w)) × (x ≡ u)). subst (λ (u : View). Knows n h t (get_or s.words 0 0) (get_or s.words 1 0) o.places desks k u) new.1 (record {
               number = λ l. omega (arith, number, new.0, long);
+              cells = λ l. knew.cells lead.live;
+              from = λ l. absurd (omega (arith, l));
               posted = λ l. sym (nothing_by o.places k t (get_or s.words 0 0 - t) (λ q y from e. unknown q y from (e ∙ ap (λ (i : ℕ). Published i y) (new.0 ∙ long))));
               out = λ l pos. out_more o.desks (k - 1) ∙ past o.desks (k - 1) (omega (arith, new.0, long, o.count));
               gone = λ l. absurd (l refl);
@@ -172,11 +174,11 @@ module _ {S : Type 0} (n h t : ℕ) (start : ℕ → ℕ) (good : ℕ → Type 0
               (λ z. (both, ap (get_elem? vs) z ∙ here, ap (λ (z : View). z.pending) (one_value s.views 0 v g.0 me (ap (get_elem? s.views) (sym z) ∙ g.1)) ∙ g.2))
               (λ a. (g.0, stays j g.0 a (λ z. omega (arith, g.2, idle, ap (λ (z : View). z.pending) (one_value s.views other w g.0 at (ap (get_elem? s.views) (sym z) ∙ g.1)))) g.1, g.2));
         };
-        knows = each_set (λ j u. Knows n t (get_or s.words 0 0) (get_or s.words 1 0) o.places desks j u) (set s.views 0 both) other spent
-            (record { number = λ l. absurd (omega (arith, l)); posted = λ l. absurd (omega (arith, l)); out = λ l. absurd (omega (arith, l)); gone = λ l. (refl, refl); pending = λ p e. absurd (omega (arith, e)); head = omega arith; lost = tt })
-            (λ j u b is. each_set (λ j u. j ≢ other → Knows n t (get_or s.words 0 0) (get_or s.words 1 0) o.places desks j u) s.views 0 both
-            (λ _. record { number = knew.number; posted = knew.posted; out = λ l pos. absurd (omega (arith, pos)); gone = λ l. absurd (l lead.live); pending = knew.pending; head = knew.head; lost = lost_more n o.places v.lost w.lost knew.lost joins-it.lost })
-            (λ j u a is b. let g = o.knows j u is in record { number = g.number; posted = g.posted; out = λ l pos. ap (λ (d : Desk). d.out) (same (j - 1) (λ e. b (omega (arith, e, pos, ne)))) ∙ g.out l pos; gone = g.gone; pending = g.pending; head = g.head; lost = g.lost })
+        knows = each_set (λ j u. Knows n h t (get_or s.words 0 0) (get_or s.words 1 0) o.places desks j u) (set s.views 0 both) other spent
+            (record { number = λ l. absurd (omega (arith, l)); cells = λ l. absurd (omega (arith, l)); from = λ l. absurd (omega (arith, l)); posted = λ l. absurd (omega (arith, l)); out = λ l. absurd (omega (arith, l)); gone = λ l. (refl, refl); pending = λ p e. absurd (omega (arith, e)); head = omega arith; lost = tt })
+            (λ j u b is. each_set (λ j u. j ≢ other → Knows n h t (get_or s.words 0 0) (get_or s.words 1 0) o.places desks j u) s.views 0 both
+            (λ _. record { number = knew.number; cells = knew.cells; from = knew.from; posted = knew.posted; out = λ l pos. absurd (omega (arith, pos)); gone = λ l. absurd (l lead.live); pending = knew.pending; head = knew.head; lost = lost_more n o.places v.lost w.lost knew.lost joins-it.lost })
+            (λ j u a is b. let g = o.knows j u is in record { number = g.number; cells = g.cells; from = g.from; posted = g.posted; out = λ l pos. ap (λ (d : Desk). d.out) (same (j - 1) (λ e. b (omega (arith, e, pos, ne)))) ∙ g.out l pos; gone = g.gone; pending = g.pending; head = g.head; lost = g.lost })
             j u is b);
         lead = (
           both,

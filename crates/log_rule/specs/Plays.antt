@@ -6,8 +6,9 @@ use Rattle.log_rule.specs.Places.{entry, tag}
 use Rattle.log_rule.specs.declared.view.Desk.{Desk}
 use Rattle.log_rule.specs.declared.view.View.{View}
 
-abbrev pub fresh : ℕ → ℕ → View
-fresh number seats = record {
+abbrev pub fresh : ℕ → ℕ → ℕ → View
+fresh cells number seats = record {
+  cells = cells;
   number = number;
   live = 1;
   pending = 0;
@@ -22,11 +23,11 @@ fresh number seats = record {
   desks = [];
 }
 
-abbrev pub opener : View
-opener = fresh 0 8
+abbrev pub opener : ℕ → View
+opener cells = fresh cells 0 8
 
 abbrev pub spent : View
-spent = record (fresh 0 0) { live = 0; budget = 0 }
+spent = record (fresh 0 0 0) { live = 0; budget = 0 }
 
 abbrev pub out_desk : Desk
 out_desk = record { out = 1; posted = [] }
@@ -35,7 +36,7 @@ abbrev pub split_left : View → View
 split_left v = record v { seats = v.seats - 1; desks = v.desks ++ out_desk ∷ [] }
 
 abbrev pub split_right : View → View
-split_right v = fresh (length v.desks + 1) 0
+split_right v = fresh v.cells (length v.desks + 1) 0
 
 -- the first seat keeps what the other posted, and its notes
 abbrev pub joined : View → View → View
@@ -85,9 +86,8 @@ module _ {S : Type 0} where
   abbrev pub posted : Play S
   posted st m r n = n ≡ (posting m.0 st.first, m.1)
 
-  -- with so many cells
-  abbrev pub found : (good : ℕ → Type 0) → ℕ → Play S
-  found good cells st m r n = (tag r ≡ phase_of cells (m.0.head - 1) → (n ≡ (finding m.0 r, m.1)) × good r) × (tag r ≢ phase_of cells (m.0.head - 1) → n ≡ (missing m.0 r, m.1))
+  abbrev pub found : (good : ℕ → Type 0) → Play S
+  found good st m r n = (tag r ≡ phase_of m.0.cells (m.0.head - 1) → (n ≡ (finding m.0 r, m.1)) × good r) × (tag r ≢ phase_of m.0.cells (m.0.head - 1) → n ≡ (missing m.0 r, m.1))
 
   abbrev pub took : Play S
   took st m r n = n ≡ (taking m.0, m.1)

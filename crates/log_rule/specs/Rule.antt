@@ -52,8 +52,10 @@ AreLost n places [] = Unit {0}
 AreLost n places (x ∷ xs) = (places x.at ≡ GivenUp) × (x.head + n ≤ x.at) × AreLost n places xs
 
 -- what a seat's view says of the log
-pub record Knows (n t back front : ℕ) (places : ℕ → Place) (desks : List Desk) (j : ℕ) (v : View) : Type 0 where
+pub record Knows (n h t back front : ℕ) (places : ℕ → Place) (desks : List Desk) (j : ℕ) (v : View) : Type 0 where
   pub number : v.live ≡ 1 → v.number ≡ j
+  pub cells : v.live ≡ 1 → v.cells ≡ n
+  pub from : 0 < v.head → h < v.head
   pub posted : v.live ≡ 1 → v.posted ≡ posted_by places j t (back - t)
   pub out : v.live ≡ 1 → 0 < j → (slice_index_or desks (j - 1) no_desk).out ≡ 1
   pub gone : v.live ≢ 1 → (v.pending ≡ 0) × (v.lost ≡ [])
@@ -92,7 +94,7 @@ module _ (n h t : ℕ) (start : ℕ → ℕ) (good : ℕ → Type 0) where
     pub places : ℕ → Place
     pub desks : List Desk
     pub holds : Holds s.words s.views (length desks) places
-    pub knows : (j : ℕ) (v : View) → get_elem? s.views j ≡ some v → Knows n t (slice_index s.words 0) (slice_index s.words 1) places desks j v
+    pub knows : (j : ℕ) (v : View) → get_elem? s.views j ≡ some v → Knows n h t (slice_index s.words 0) (slice_index s.words 1) places desks j v
     pub lead : (f : View) × (get_elem? s.views 0 ≡ some f) × Leads h (slice_index s.words 1) places desks f
     pub count : length s.views ≡ length desks + 1
     pub kept : (j : ℕ) → (slice_index_or desks j no_desk).out ≡ 0 → (slice_index_or desks j no_desk).posted ≡ posted_by places (j + 1) t (slice_index s.words 0 - t)

@@ -30,6 +30,8 @@ pub struct Desk {
 pub struct View {
     /// 0 is the first seat, the others count from 1.
     pub number: u64,
+    /// How many cells the log has.
+    pub cells: u64,
     /// 1 until the seat is joined.
     pub live: u64,
     /// 0, or one more than the position that was drawn and isn't filled.
