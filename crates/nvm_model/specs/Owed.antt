@@ -1,8 +1,7 @@
-use Rattle.std.specs.Prelude.{◌≡◌, ◌⊎◌, ℕ, ◌+◌, ◌-◌, ◌==◌, ◌||◌, Bool, true, false, not, cond, count_by, List, [], ◌∷◌, ◌++◌, Option, Some, None, drop, filter, length, map, slice_get, slice_index_or, slice_set, sum, take}
+use Rattle.std.specs.Prelude.{◌≡◌, ◌⊎◌, ℕ, ◌+◌, ◌-◌, ◌==◌, ◌||◌, Bool, true, false, not, cond, count_by, List, [], ◌∷◌, Option, Some, None, drop, filter, length, map, slice_get, slice_index_or, sum, take}
 use Rattle.std.specs.List.{flat_map, list_any, range_with_len}
 use Rattle.nvm_values.specs.declared.op.Op.{Op}
 use Rattle.nvm_values.specs.declared.op.Op.TheVariants.{Flush, Write, Read, Compare, WriteZeroes, Verify}
-use Rattle.nvm_model.specs.declared.command.Command.{Command}
 use Rattle.nvm_model.specs.declared.command.Pages.{Pages}
 use Rattle.nvm_model.specs.declared.command.Work.{Work}
 use Rattle.nvm_model.specs.declared.line.Line.{Line}
@@ -12,7 +11,7 @@ use Rattle.nvm_model.specs.declared.script.Act.TheVariants.{Fill, Poke, List as 
 use Rattle.nvm_model.specs.declared.script.Head.{Head}
 use Rattle.nvm_model.specs.declared.script.LaneSet.{LaneSet}
 use Rattle.nvm_model.specs.declared.script.Script.{Script}
-use Rattle.nvm_model.specs.Piece.{done_blocks, page_of, pieces_left}
+use Rattle.nvm_model.specs.Piece.{done_blocks, page_of}
 use Rattle.nvm_model.specs.World.{acts_of, window_pages}
 
 -- What a migration owes to the other side: blocks of the namespace, and window pages of all lanes together, ascending.

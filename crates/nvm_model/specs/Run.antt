@@ -1,5 +1,5 @@
-use Rattle.std.specs.Prelude.{◌≡◌, ◌⊎◌, ℕ, ◌+◌, ◌-◌, ◌*◌, ◌/◌, ◌%◌, ◌≤◌, ◌<◌, Bool, true, false, cond, List, [], ◌∷◌, ◌++◌, Option, Some, None, length, map, slice_get, slice_index_or, slice_set, take, All}
-use Rattle.std.specs.List.{AllByRecursion, flat_map, range_with_len}
+use Rattle.std.specs.Prelude.{◌≡◌, ◌⊎◌, ℕ, ◌+◌, ◌-◌, ◌*◌, ◌/◌, ◌%◌, ◌≤◌, ◌<◌, Bool, true, false, List, [], ◌∷◌, ◌++◌, Option, Some, None, length, map, slice_get, slice_set, take, All}
+use Rattle.std.specs.List.{AllByRecursion, flat_map}
 use Rattle.mig_base.specs.Count.{RisesIf}
 use Rattle.mig_base.specs.Stream.{IsCut, with_more}
 use Rattle.nvm_model.specs.declared.command.Command.{Command}
@@ -28,7 +28,7 @@ use Rattle.nvm_model.specs.declared.run.RunPhase.{RunPhase}
 use Rattle.nvm_model.specs.declared.run.RunPhase.TheVariants.{New, Running, Moving, Suspended, Stopped, Over}
 use Rattle.nvm_model.specs.declared.run.Side.{Side}
 use Rattle.nvm_model.specs.declared.run.Side.TheVariants.{Source, Destination}
-use Rattle.nvm_model.specs.World.{Lane, World, lane_of, start_world, window_pages}
+use Rattle.nvm_model.specs.World.{Lane, World, lane_of, start_world}
 
 -- A run: guests over the media of one side, turn after turn, and their move to the other side. It is a list of stages from
 -- one snapshot to the next, whatever the media are and whether they tell what they hold.

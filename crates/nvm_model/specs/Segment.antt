@@ -1,13 +1,12 @@
-use Rattle.std.specs.Prelude.{◌≡◌, ℕ, ◌+◌, ◌*◌, ◌/◌, ◌%◌, ◌==◌, cond, List, [], ◌∷◌, ◌++◌, length, map, take}
-use Rattle.std.specs.List.{flat_map, range_with_len}
+use Rattle.std.specs.Prelude.{◌≡◌, ℕ, ◌+◌, ◌/◌, ◌%◌, ◌==◌, cond, List, [], ◌∷◌, ◌++◌, map}
+use Rattle.std.specs.List.{range_with_len}
 use Rattle.std.specs.List.Sorted.{IsPermutation}
-use Rattle.nvm_values.specs.declared.op.Op.{Op}
 use Rattle.nvm_model.specs.declared.command.Outcome.{Outcome}
 use Rattle.nvm_model.specs.declared.command.Outcome.TheVariants.{Done, Faulted, Differs}
 use Rattle.nvm_model.specs.declared.trace.Step.{Step}
 use Rattle.nvm_model.specs.declared.trace.Step.TheVariants.{Get, Put, Mark}
 use Rattle.nvm_model.specs.Medium.{At}
-use Rattle.nvm_model.specs.Run.{Copy, Item, PieceCalled, copies_of, pieces_of}
+use Rattle.nvm_model.specs.Run.{Copy, Item, PieceCalled, copies_of}
 use Rattle.nvm_model.specs.Run.Item.{Served, Crossed}
 use Rattle.nvm_model.specs.Trace.{step_of}
 

@@ -1,31 +1,28 @@
-use Rattle.std.proofs.Common.{◌≡◌, ◌⊎◌, inl, inr, ⊎_elim, ℕ, zero, suc, ◌+◌, ◌*◌, ◌/◌, ◌%◌, ◌<◌, Bool, true, false, List, [], ◌∷◌, ◌++◌, Option, Some, None, length, map, set, take, drop, refl, sym, ap, subst, ◌∙◌, append_assoc, append-nil, arith}
+use Rattle.std.proofs.Common.{◌≡◌, ℕ, ◌+◌, ◌*◌, ◌/◌, ◌%◌, Bool, true, false, List, [], ◌∷◌, ◌++◌, Some, None, length, map, set, take, drop, refl, sym, ap, subst, ◌∙◌, append_assoc, append-nil, arith}
 use Rattle.std.specs.List.{flat_map, range_with_len}
 use Rattle.std.proofs.lemmas.Grind.{flat_map-append}
 use Rattle.std.proofs.lemmas.List.{take-append-drop}
 use Rattle.nvm_values.specs.declared.op.Op.{Op}
 use Rattle.nvm_values.specs.declared.op.Op.TheVariants.{Flush, Write, Read, Compare, WriteZeroes, Verify}
-use Rattle.mig_base.specs.declared.span.Span.{Span}
 use Rattle.nvm_model.specs.declared.command.Outcome.{Outcome}
 use Rattle.nvm_model.specs.declared.command.Outcome.TheVariants.{Done, Faulted, Differs}
-use Rattle.nvm_model.specs.declared.command.Pages.{Pages}
-use Rattle.nvm_model.specs.declared.command.Work.{Work}
 use Rattle.nvm_model.specs.declared.line.Line.{Line}
 use Rattle.nvm_model.specs.declared.line.Line.TheVariants as line
 use Rattle.nvm_model.specs.declared.piece.Piece.{Piece}
 use Rattle.nvm_model.specs.declared.script.Script.{Script}
 use Rattle.nvm_model.specs.declared.trace.Call.{Call}
 use Rattle.nvm_model.specs.declared.trace.Step.{Step}
-use Rattle.nvm_model.specs.declared.trace.Step.TheVariants.{Get, Put, Mark}
+use Rattle.nvm_model.specs.declared.trace.Step.TheVariants.{Get, Put}
 use Rattle.nvm_model.specs.Chain.{Chain}
 use Rattle.nvm_model.specs.Medium.{At, IsAt, flat_call, MediumState, all_at, marked, marks_at}
-use Rattle.nvm_model.specs.Owed.{DifferIn, IsAmong, Written, blocks_of, blocks_written, changed_by, either_of, written_by}
+use Rattle.nvm_model.specs.Owed.{DifferIn, Written, blocks_of, blocks_written, changed_by, either_of, written_by}
 use Rattle.nvm_model.specs.Piece.{OutcomeFits, block_at, done_blocks}
 use Rattle.nvm_model.specs.Run.{AllCopied, CopiesAll, Copy, CopyEnd, Here, IsItem, IsTurn, Item, PieceCalled, TakesMoving, Task, TurnDone, copies_of, due_after, gets_of, here, owed_then, part_of, piece_line, pieces_of, puts_of, resume_mark, suspend_mark, turn_mark, written_in, Snapshot, media_count}
 use Rattle.nvm_model.specs.Run.CopyEnd.{Copied, NotRead, NotWritten}
 use Rattle.nvm_model.specs.Run.Item.{Served, Crossed}
 use Rattle.nvm_model.specs.Told.{Tell, serial}
 use Rattle.nvm_model.specs.Trace.{data_sent, good_calls, moved_count, piece_calls, step_of}
-use Rattle.turns.proofs.CoverLaws.{ChangeIn, all_differ, among_left, among_right, calls_change, differ_changed, differ_copied, differ_either, none_differs, put_at, puts_in}
+use Rattle.turns.proofs.CoverLaws.{ChangeIn, all_differ, calls_change, differ_changed, differ_copied, differ_either, none_differs, put_at, puts_in}
 use Rattle.turns.proofs.PieceLaws.{Blocks, Flat, calls_told, copy_here, place_is}
 
 -- What may differ between two sides whose media tell their blocks, while pieces are served and blocks are copied.

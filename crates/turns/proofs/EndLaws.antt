@@ -1,5 +1,5 @@
 use Rattle.std.proofs.Common.{◌≡◌, ◌⊎◌, ◌&&◌, ◌||◌, ℕ, inl, inr, Bool, true, false, List, [], ◌∷◌, ◌++◌, Option, Some, None, length, refl, sym, ap, subst, ◌∙◌, append_assoc, append-nil}
-use Rattle.std.specs.List.{AllByRecursion, flat_map, list_any}
+use Rattle.std.specs.List.{AllByRecursion, flat_map}
 use Rattle.std.specs.Option.{option_map}
 use Rattle.std.proofs.lemmas.Bool.{false≢true}
 use Rattle.mig_base.proofs.ListLemmas.{all_append}
@@ -27,7 +27,7 @@ use Rattle.turns.proofs.LineLaws.{all_events, events_more}
 use Rattle.turns.proofs.PieceLaws.{Blocks}
 use Rattle.turns.proofs.RoundLaws.{Stands}
 use Rattle.turns.proofs.ToldLaws.{Behind, Ended, StandsAt, Tried, Untried, course_lines, run_stands, side_of}
-use Rattle.turns.proofs.WholeLaws.{EachEvents, Whole, before_events, after_events, ending_events, in_turns, is_legal, is_whole, last_lines, moving_events, moving_each, reaches_moved, round_events, text_is, way_of, whole_are_lines, whole_lines}
+use Rattle.turns.proofs.WholeLaws.{EachEvents, Whole, before_events, after_events, ending_events, in_turns, is_legal, is_whole, last_lines, moving_each, reaches_moved, text_is, way_of, whole_are_lines, whole_lines}
 
 -- A run that came to its end.
 

@@ -1,6 +1,5 @@
 use Rattle.std.proofs.Common.{◌≡◌, ℕ, ◌+◌, ◌*◌, ◌≤◌, ◌%◌, ◌/◌, Bool, true, false, cond, List, [], ◌∷◌, ◌++◌, length, map, get_or, refl, sym, ap, subst, ◌∙◌, arith}
 use Rattle.std.specs.List.{flat_map, range_with_len}
-use Rattle.std.proofs.lemmas.Grind.{flat_map-append}
 use Rattle.std.proofs.lemmas.List.{length-set}
 use Rattle.std.proofs.lemmas.List.Elements.{All-set}
 use Rattle.mig_base.specs.Count.{NeverFall, RiseBy}
@@ -337,32 +336,73 @@ stage_failed {M} state moves x (Round side n t lost blocks pages) y r =
     let s = x.task.script in
     let turn = turn_failed state moves x.task _ _ t (here y) r.moving.turn in
     let calls : Side → List At = λ who. by_side who side (turn_calls s t) (copy_calls s t) in
-    omega (arith, turn, all_copied (copies_of t.items) r.copied, both_sides side (turn_calls s t) (copy_calls s t), none_marked (media_count s) (3 * n), failed_more (turn_mark s n) (calls Source), failed_more (turn_mark s n) (calls Destination),
-      faults_more (turn_lines t) (restart_line lost ++ line.Round blocks pages ∷ []), restart_calm lost blocks pages, at_phase r.moving.was, ap (λ (z : Snapshot M). owed_fault z.phase) r.after)
+    omega (
+      arith,
+      turn,
+      all_copied (copies_of t.items) r.copied,
+      both_sides side (turn_calls s t) (copy_calls s t),
+      none_marked (media_count s) (3 * n),
+      failed_more (turn_mark s n) (calls Source),
+      failed_more (turn_mark s n) (calls Destination),
+      faults_more (turn_lines t) (restart_line lost ++ line.Round blocks pages ∷ []),
+      restart_calm lost blocks pages,
+      at_phase r.moving.was,
+      ap (λ (z : Snapshot M). owed_fault z.phase) r.after,
+    )
 stage_failed {M} state moves x (Broken side n t) y r =
     let s = x.task.script in
     let turn = turn_failed state moves x.task _ _ t (here y) r.moving.turn in
     let calls : Side → List At = λ who. by_side who side (turn_calls s t) (copy_calls s t) in
     let few = few_failed state moves x.task _ t.items _ r.moving.turn.working in
     let some : failed_copies (copies_of t.items) ≡ 0 → ⊥ = λ none. r.failed (copied_all (copies_of t.items) none) in
-    omega (arith, turn, few, some, both_sides side (turn_calls s t) (copy_calls s t), none_marked (media_count s) (3 * n), failed_more (turn_mark s n) (calls Source), failed_more (turn_mark s n) (calls Destination),
-      at_phase r.moving.was, ap (λ (z : Snapshot M). owed_fault z.phase) r.after)
+    omega (
+      arith,
+      turn,
+      few,
+      some,
+      both_sides side (turn_calls s t) (copy_calls s t),
+      none_marked (media_count s) (3 * n),
+      failed_more (turn_mark s n) (calls Source),
+      failed_more (turn_mark s n) (calls Destination),
+      at_phase r.moving.was,
+      ap (λ (z : Snapshot M). owed_fault z.phase) r.after,
+    )
 stage_failed {M} state moves x (Resume side n copies pages) y r =
     let s = x.task.script in
     let gets = flat_map (gets_of s.head.shelf) copies in
     let puts = flat_map (puts_of s.head.shelf) copies in
     let calls : Side → List At = λ who. by_side who side gets puts in
     let all = all_copied copies r.copies_all.copied in
-    omega (arith, copies_failed s.head.shelf copies, all, both_sides side gets puts, none_marked (media_count s) (3 * n + 1), none_marked (media_count s) (3 * n + 2),
-      failed_more (suspend_mark s n) (calls Source ++ resume_mark s n), failed_more (suspend_mark s n) (calls Destination ++ resume_mark s n), failed_more (calls Source) (resume_mark s n), failed_more (calls Destination) (resume_mark s n),
-      at_phase r.was, ap (λ (z : Snapshot M). owed_fault z.phase) r.after)
+    omega (
+      arith,
+      copies_failed s.head.shelf copies,
+      all,
+      both_sides side gets puts,
+      none_marked (media_count s) (3 * n + 1),
+      none_marked (media_count s) (3 * n + 2),
+      failed_more (suspend_mark s n) (calls Source ++ resume_mark s n),
+      failed_more (suspend_mark s n) (calls Destination ++ resume_mark s n),
+      failed_more (calls Source) (resume_mark s n),
+      failed_more (calls Destination) (resume_mark s n),
+      at_phase r.was,
+      ap (λ (z : Snapshot M). owed_fault z.phase) r.after,
+    )
 stage_failed {M} state moves x (Stop side n copies) y r =
     let s = x.task.script in
     let gets = flat_map (gets_of s.head.shelf) copies in
     let puts = flat_map (puts_of s.head.shelf) copies in
     let calls : Side → List At = λ who. by_side who side gets puts in
-    omega (arith, copies_failed s.head.shelf copies, one_failed x.owed.blocks copies r.copies_stop, both_sides side gets puts, none_marked (media_count s) (3 * n + 1),
-      failed_more (suspend_mark s n) (calls Source), failed_more (suspend_mark s n) (calls Destination), at_phase r.was, ap (λ (z : Snapshot M). owed_fault z.phase) r.after)
+    omega (
+      arith,
+      copies_failed s.head.shelf copies,
+      one_failed x.owed.blocks copies r.copies_stop,
+      both_sides side gets puts,
+      none_marked (media_count s) (3 * n + 1),
+      failed_more (suspend_mark s n) (calls Source),
+      failed_more (suspend_mark s n) (calls Destination),
+      at_phase r.was,
+      ap (λ (z : Snapshot M). owed_fault z.phase) r.after,
+    )
 stage_failed {M} state moves x (GiveUp n) y r =
     omega (arith, none_marked (media_count x.task.script) (3 * n + 2), at_phase r.was, ap (λ (z : Snapshot M). owed_fault z.phase) r.after)
 

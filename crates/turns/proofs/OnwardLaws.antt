@@ -8,7 +8,7 @@ use Rattle.nvm_model.specs.declared.script.Script.{Script}
 use Rattle.nvm_model.specs.History.{Complete, faults_shown}
 use Rattle.nvm_model.specs.Medium.{MediumState}
 use Rattle.nvm_model.specs.Owed.{Owed, all_owed}
-use Rattle.nvm_model.specs.Rounds.{Ending, Ends, InRounds, Moves, MovesInRounds, RoundText, copies_due, ending_text, last_turn, moving_turns, round_text, turns_in, turns_of}
+use Rattle.nvm_model.specs.Rounds.{Ending, Ends, InRounds, Moves, MovesInRounds, RoundText, copies_due, ending_text, last_turn, round_text, turns_in, turns_of}
 use Rattle.nvm_model.specs.Rounds.Ending.{Moved, Halted, Broke}
 use Rattle.nvm_model.specs.Run.{IsCutDue, Snapshot, Task}
 use Rattle.nvm_model.specs.ScriptText.{IsScript}
@@ -17,7 +17,7 @@ use Rattle.nvm_model.specs.Turn.{Begins, Turn, Turns, events_in, pieces_in}
 use Rattle.nvm_model.specs.World.{Lane, World, start_world}
 use Rattle.turns.specs.Frame.{AreAtRest, AreServed}
 use Rattle.turns.proofs.CalmLaws.{faults_more}
-use Rattle.turns.proofs.FrameLemmas.{events_in_more, frame_rest, pieces_in_more, turn_frame, turns_more}
+use Rattle.turns.proofs.FrameLemmas.{events_in_more, frame_rest, turn_frame, turns_more}
 use Rattle.turns.proofs.PieceLaws.{Blocks}
 use Rattle.turns.proofs.PlanLemmas.{calm_more}
 use Rattle.turns.proofs.RestLemmas.{EndsInRounds, ends_in_rounds, ends_in_turns, turns_up_to}

@@ -331,10 +331,10 @@ has_mixed s (suc m) n copies w left new_work =
     let count = length-map w.lanes (left_in s.head.shelf) in
     ⊎_elim
     (λ there.
-        let next = gives (left_in s.head.shelf) w.lanes (k - 1) (suc has.fewer) there in
-        let piece = has_piece s w.blocks next.element (all_there IsNewLane w.lanes (k - 1) next.element new_work next.there) (omega (arith, next.is)) in
-        let fewer = sum_falls (left_in s.head.shelf) w.lanes (k - 1) next.element piece.new next.there piece.fewer in
-        then_mixed s n copies w k next.element refl has.past next.there piece
-        (has_mixed s m (n + 1) copies (after_work w k piece) (omega (arith, left, fewer)) (all_set IsNewLane w.lanes (k - 1) piece.new new_work piece.new_work)))
+    let next = gives (left_in s.head.shelf) w.lanes (k - 1) (suc has.fewer) there in
+    let piece = has_piece s w.blocks next.element (all_there IsNewLane w.lanes (k - 1) next.element new_work next.there) (omega (arith, next.is)) in
+    let fewer = sum_falls (left_in s.head.shelf) w.lanes (k - 1) next.element piece.new next.there piece.fewer in
+    then_mixed s n copies w k next.element refl has.past next.there piece
+    (has_mixed s m (n + 1) copies (after_work w k piece) (omega (arith, left, fewer)) (all_set IsNewLane w.lanes (k - 1) piece.new new_work piece.new_work)))
     (λ is. then_copy s n copies w (omega (arith, is.0, count, has.past)) (has_mixed s m (n + 1) (copies - 1) w (omega (arith, left, is.1)) new_work))
     (slice_get-push_cases (lefts s w) copies (suc has.fewer) (k - 1) has.there)

@@ -18,11 +18,11 @@ use Rattle.nvm_model.specs.History.{Steps}
 use Rattle.nvm_model.specs.Medium.{At, Effect, IsAt, MediumState, StayTold, flat_call, told_in}
 use Rattle.nvm_model.specs.Piece.{digest_after, done_blocks}
 use Rattle.nvm_model.specs.Shelf.{HasEffect, digest_bytes, joined}
-use Rattle.nvm_model.specs.Turn.{InOrder, IsKind, SerialTurn, Turn, left_in, next_lane, piece_number, pieces_in, pick_at, with_some}
+use Rattle.nvm_model.specs.Turn.{InOrder, IsKind, Turn, left_in, next_lane, piece_number, pieces_in, pick_at, with_some}
 use Rattle.nvm_model.specs.Turn.Kind.{Piece}
 use Rattle.nvm_model.specs.World.{Lane, World, lane_of}
 use Rattle.nvm_model.proofs.MediaLemmas.{flat_calls, length_joined, piece_told}
-use Rattle.nvm_model.specs.Run.{AllCopied, Copy, CopyEnd, Here, IsCrossed, IsItem, IsPiece, IsTurn, Item, PieceCalled, Task, TurnDone, among, copies_of, due_after, gets_of, part_of, piece_line, pieces_of, puts_of, turn_lines, written_in}
+use Rattle.nvm_model.specs.Run.{AllCopied, Copy, CopyEnd, Here, IsItem, IsPiece, IsTurn, Item, PieceCalled, TurnDone, among, copies_of, due_after, gets_of, part_of, piece_line, pieces_of, turn_lines, written_in}
 use Rattle.nvm_model.specs.Run.CopyEnd.{Copied, NotRead, NotWritten}
 use Rattle.nvm_model.specs.Run.Item.{Served, Crossed}
 use Rattle.nvm_model.specs.Rounds.{InMixedOrder, Wrote, picked_pieces}
@@ -158,7 +158,7 @@ none_behind k [] = refl
 none_behind k (zero ∷ others) = none_behind (k + 1) others
 none_behind k (suc m ∷ others) = ap (λ (ks : List ℕ). k ∷ ks) (none_behind (k + 1) others)
 
-next_alone : (mix n : ℕ) (left : List ℕ) → next_lane mix n (left ++ 0 ∷ []) ≡ next_lane mix n left
+pub next_alone : (mix n : ℕ) (left : List ℕ) → next_lane mix n (left ++ 0 ∷ []) ≡ next_lane mix n left
 next_alone mix n left = ap (λ (some : List ℕ). slice_index_or some (pick_at mix n (length some)) 0) (none_behind 1 left)
 
 alone : (s : Script) (n : ℕ) (w : World) (items : List Item) → copies_of items ≡ [] → InMixedOrder s n 0 w (picks_of items) → InOrder s n w (map piece_line (pieces_of items))
@@ -221,12 +221,11 @@ items_told {M} state moves s old (Crossed k ∷ items) new blocks c t =
       steps = subst (λ (ls : List Lane). Steps s (w ls) (map piece_line (pieces_of items)) (world_of rest.after new.lanes)) lanes rest.steps;
       wrote = subst (λ (ls : List Lane). Wrote s (w ls) (map piece_line (pieces_of items)) (map (wrote_by s) (pieces_of items)) (world_of rest.after new.lanes)) lanes rest.wrote;
       order = λ all none.
-          let less = due_less k.ended k.block old.due c.1.front c.1.others c.0.due all.0 c.1.due (ap (λ (h : Here M). h.due) c.1.after) in
-          (
+          let less = due_less k.ended k.block old.due c.1.front c.1.others c.0.due all.0 c.1.due (ap (λ (h : Here M). h.due) c.1.after) in (
             c.1.next,
             subst (λ (n : ℕ). InMixedOrder s n (length old.due - 1) (w old.lanes) (picks_of items)) drawn
-            (subst (λ (n : ℕ). InMixedOrder s c.0.drawn n (w old.lanes) (picks_of items)) less
-            (subst (λ (ls : List Lane). InMixedOrder s c.0.drawn (length c.0.due) (w ls) (picks_of items)) lanes (rest.order all.1 none))),
+                (subst (λ (n : ℕ). InMixedOrder s c.0.drawn n (w old.lanes) (picks_of items)) less
+                (subst (λ (ls : List Lane). InMixedOrder s c.0.drawn (length c.0.due) (w ls) (picks_of items)) lanes (rest.order all.1 none))),
           );
       drawn = omega (arith, rest.drawn, drawn);
     }

@@ -1,4 +1,4 @@
-use Rattle.std.proofs.Common.{◌≡◌, Bool, false, refl, subst, arith}
+use Rattle.std.proofs.Common.{◌≡◌, Bool, false, refl, arith}
 use Rattle.std.specs.List.{flat_map}
 use Rattle.nvm_model.specs.declared.trace.Step.{Step}
 use Rattle.nvm_model.specs.Medium.{MediumState}

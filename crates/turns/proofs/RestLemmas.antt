@@ -1,4 +1,4 @@
-use Rattle.std.proofs.Common.{◌≡◌, ℕ, zero, suc, ◌+◌, ◌-◌, ◌<◌, ◌≤◌, ◌⊎◌, inl, inr, ⊎_elim, List, [], ◌∷◌, ◌++◌, length, slice_index_or, sum, refl, subst, arith, ◌*◌, Bool, true, false, ap, sym}
+use Rattle.std.proofs.Common.{◌≡◌, ℕ, zero, suc, ◌+◌, ◌-◌, ◌<◌, ◌≤◌, ◌⊎◌, inl, inr, ⊎_elim, List, [], ◌∷◌, ◌++◌, length, slice_index_or, sum, refl, subst, arith, Bool, true, false}
 use Rattle.std.specs.List.{AllByRecursion, flat_map}
 use Rattle.std.proofs.lemmas.Bool.{cases_eq, cases_lt}
 use Rattle.nvm_model.specs.declared.command.Command.{Command}
@@ -7,7 +7,7 @@ use Rattle.nvm_model.specs.declared.line.Line.TheVariants as line
 use Rattle.nvm_model.specs.declared.script.Script.{Script}
 use Rattle.nvm_model.specs.History.{Complete, IsLaneComplete, Steps, faults_shown}
 use Rattle.nvm_model.specs.Owed.{Owed, Written, changes_of, owed_after, restarted_if, written_by}
-use Rattle.nvm_model.specs.Rounds.{InRounds, IsRoundText, MovingTurn, RoundText, Wrote, copies_due, picked_pieces, round_text, work_at}
+use Rattle.nvm_model.specs.Rounds.{InRounds, MovingTurn, RoundText, Wrote, copies_due, picked_pieces, round_text, work_at}
 use Rattle.nvm_model.specs.Run.{IsCutDue, IsLost, restart_line}
 use Rattle.nvm_model.specs.Told.{serial}
 use Rattle.nvm_model.specs.Piece.{pieces_left}
@@ -274,7 +274,7 @@ may_lose s changes copies =
 due_or_not : (s : Script) (owed : Owed) (k : ℕ) → IsCutDue s.head owed k ⊎ (IsCutDue s.head owed k → ⊥)
 due_or_not s owed k =
     ⊎_elim (λ waits. ⊎_elim (λ many. inr (λ due. ⊎_elim (λ few. absurd (omega (arith, many, few.0))) (λ past. absurd (omega (arith, waits, past))) due))
-        (λ blocks. ⊎_elim (λ many. inr (λ due. ⊎_elim (λ few. absurd (omega (arith, many, few.1))) (λ past. absurd (omega (arith, waits, past))) due)) (λ pages. inl (inl (blocks, pages))) (cases_lt s.head.pages (length owed.pages))) (cases_lt s.head.small (length owed.blocks)))
+    (λ blocks. ⊎_elim (λ many. inr (λ due. ⊎_elim (λ few. absurd (omega (arith, many, few.1))) (λ past. absurd (omega (arith, waits, past))) due)) (λ pages. inl (inl (blocks, pages))) (cases_lt s.head.pages (length owed.pages))) (cases_lt s.head.small (length owed.blocks)))
     (λ past. inl (inr past)) (cases_lt k s.head.patience)
 
 -- rounds after which a suspension is due
@@ -299,23 +299,23 @@ ends_in_rounds s (suc fuel) n k w owed burst rest served few =
     ⊎_elim
     (λ due. record { rounds = []; v = w; left = owed; drawn = n; are = (refl, refl, refl); due = subst (λ (i : ℕ). IsCutDue s.head owed i) (omega arith) due; rest = rest; served = served; calm = refl })
     (λ not.
-        let copies = copies_due s owed in
-        let move = can_move s n copies w burst rest served in
-        let wrote = has_written s w move.events move.v (turn_steps move.turn.turn) in
-        let lose = may_lose s (changes_of wrote.written) copies in
-        let then = restarted_if lose.lost s.head (owed_after s.head wrote.written owed) in
-        let r : RoundText = record { events = move.events; restarted = lose.lost; owed = then } in
-        let more = ends_in_rounds s fuel (n + pieces_in move.events + copies) (k + 1) move.v then burst move.rest move.served (omega (arith, few)) in
-        let tail = restart_line lose.lost ++ line.Round (length then.blocks) (length then.pages) ∷ [] in
-        record {
-          rounds = r ∷ more.rounds;
-          v = more.v;
-          left = more.left;
-          drawn = more.drawn;
-          are = (move.v, record { not_due = not; turn = move.turn; written = wrote.written; wrote = wrote.wrote; lost = lose.is; owed_is = refl }, more.are);
-          due = subst (λ (i : ℕ). IsCutDue s.head more.left i) (omega arith) more.due;
-          rest = more.rest;
-          served = more.served;
-          calm = calm_more (move.events ++ tail) (flat_map round_text more.rounds) (calm_more move.events tail move.calm (restart_calm lose.lost (length then.blocks) (length then.pages))) more.calm;
-        })
+    let copies = copies_due s owed in
+    let move = can_move s n copies w burst rest served in
+    let wrote = has_written s w move.events move.v (turn_steps move.turn.turn) in
+    let lose = may_lose s (changes_of wrote.written) copies in
+    let then = restarted_if lose.lost s.head (owed_after s.head wrote.written owed) in
+    let r : RoundText = record { events = move.events; restarted = lose.lost; owed = then } in
+    let more = ends_in_rounds s fuel (n + pieces_in move.events + copies) (k + 1) move.v then burst move.rest move.served (omega (arith, few)) in
+    let tail = restart_line lose.lost ++ line.Round (length then.blocks) (length then.pages) ∷ [] in
+    record {
+      rounds = r ∷ more.rounds;
+      v = more.v;
+      left = more.left;
+      drawn = more.drawn;
+      are = (move.v, record { not_due = not; turn = move.turn; written = wrote.written; wrote = wrote.wrote; lost = lose.is; owed_is = refl }, more.are);
+      due = subst (λ (i : ℕ). IsCutDue s.head more.left i) (omega arith) more.due;
+      rest = more.rest;
+      served = more.served;
+      calm = calm_more (move.events ++ tail) (flat_map round_text more.rounds) (calm_more move.events tail move.calm (restart_calm lose.lost (length then.blocks) (length then.pages))) more.calm;
+    })
     (due_or_not s owed k)

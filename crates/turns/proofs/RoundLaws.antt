@@ -1,8 +1,6 @@
-use Rattle.std.proofs.Common.{◌≡◌, ℕ, ◌+◌, Bool, List, [], ◌∷◌, ◌++◌, length, map, take, refl, sym, ap, subst, ◌∙◌, arith}
-use Rattle.std.specs.List.{flat_map}
-use Rattle.std.proofs.lemmas.List.{length-append, length-map}
+use Rattle.std.proofs.Common.{◌≡◌, ℕ, ◌+◌, Bool, List, [], ◌∷◌, ◌++◌, length, take, refl, sym, ap, subst, ◌∙◌, arith}
+use Rattle.std.proofs.lemmas.List.{length-map}
 use Rattle.std.proofs.lemmas.List.Sorted.{length_permutation}
-use Rattle.nvm_model.specs.declared.line.Line.{Line}
 use Rattle.nvm_model.specs.declared.run.Side.{Side}
 use Rattle.nvm_model.specs.declared.script.Script.{Script}
 use Rattle.nvm_model.specs.declared.trace.Step.{Step}
@@ -10,9 +8,8 @@ use Rattle.nvm_model.specs.Chain.{Chain}
 use Rattle.nvm_model.specs.History.{Complete}
 use Rattle.nvm_model.specs.Medium.{IsAt, MediumState}
 use Rattle.nvm_model.specs.Owed.{DifferIn, Owed, changes_of}
-use Rattle.nvm_model.specs.Piece.{block_at}
-use Rattle.nvm_model.specs.Rounds.{InRounds, IsRoundText, MovingTurn, RoundText, copies_due, round_text}
-use Rattle.nvm_model.specs.Run.{AllCopied, IsBroken, IsCutDue, IsLost, IsRound, IsTurn, Snapshot, TakesMoving, Task, TurnDone, among, copies_of, here, owed_then, turn_lines, turn_mark, written_in}
+use Rattle.nvm_model.specs.Rounds.{InRounds, IsRoundText, RoundText, copies_due}
+use Rattle.nvm_model.specs.Run.{IsCutDue, IsLost, IsRound, IsTurn, Snapshot, TakesMoving, Task, TurnDone, among, copies_of, here, owed_then, turn_lines, turn_mark, written_in}
 use Rattle.nvm_model.specs.Told.{Tell, serial}
 use Rattle.nvm_model.specs.Turn.{Turn, pieces_in}
 use Rattle.nvm_model.specs.World.{Lane, World}

@@ -1,17 +1,16 @@
-use Rattle.std.proofs.Common.{◌≡◌, ℕ, ◌≤◌, Bool, true, false, List, [], ◌∷◌, ◌++◌, Option, refl, sym, ap, subst, ◌∙◌, append_assoc, append-nil, arith}
+use Rattle.std.proofs.Common.{◌≡◌, ℕ, Bool, true, false, List, [], ◌∷◌, ◌++◌, Option, refl, sym, ap, subst, ◌∙◌, append_assoc, append-nil}
 use Rattle.std.specs.Prelude.{Result, Ok, Err, is_err}
 use Rattle.std.proofs.lemmas.Grind.{flat_map-append}
 use Rattle.mig_base.specs.Count.{RisesIf}
 use Rattle.mig_base.specs.Stream.{IsCut, Writes, with_more}
 use Rattle.mig_base.proofs.WriteLemmas.{with_more_nothing, written_more}
 use Rattle.nvm_model.specs.declared.line.Line.{Line}
-use Rattle.nvm_model.specs.declared.script.Script.{Script}
 use Rattle.nvm_model.specs.declared.trace.Step.{Step}
 use Rattle.nvm_model.specs.Chain.{Chain}
 use Rattle.nvm_model.specs.Medium.{MediumState}
 use Rattle.nvm_model.specs.Text.{line_text, text_of}
 use Rattle.nvm_model.proofs.ChainLemmas.{chain_keeps, chain_more, chain_one}
-use Rattle.nvm_model.specs.Run.{IsStage, IsWritten, Snapshot, Stage, Task, Went, lines_in, lines_of, SinkState}
+use Rattle.nvm_model.specs.Run.{IsStage, IsWritten, Snapshot, Stage, Went, lines_in, lines_of, SinkState}
 use Rattle.nvm_model.specs.Run.Stage.{Title, Turn, Begin, Round, Broken, Suspend, Resume, Stop, GiveUp, End}
 
 -- A run goes on, stage after stage.
@@ -94,6 +93,12 @@ pub went_sent : {M I T E : Type 0} {state : M → MediumState I} {moves : I → 
 went_sent {old} {new} {result} stage is w =
     let text = text_of (lines_of stage) in
     went_stage stage is (sent_by text old.out.taken new.out.taken old.out.faults new.out.faults result w) (counted_by text old.out.taken new.out.taken old.out.faults new.out.faults result w)
+
+-- a stage without text
+pub went_silent : {M I : Type 0} {state : M → MediumState I} {moves : I → Step → Bool → I → Type 0} {old new : Snapshot M} (stage : Stage) → IsStage state moves old stage new → lines_of stage ≡ [] → new.out ≡ old.out → Went state moves old false new
+went_silent {M} {I} {state} {moves} {old} {new} stage is none same =
+    went_stage stage is (subst (λ (o : SinkState). IsSent (text_of (lines_of stage)) old.out.taken false o.taken) (sym same) (subst (λ (ls : List Line). IsSent (text_of ls) old.out.taken false old.out.taken) (sym none) (sym (with_more_nothing old.out.taken))))
+    (ap (λ (o : SinkState). o.faults) same)
 
 -- a run that went on, and went on again
 pub went_more : {M I : Type 0} {state : M → MediumState I} {moves : I → Step → Bool → I → Type 0} {old mid new : Snapshot M} {failed : Bool} → Went state moves old false mid → Went state moves mid failed new → Went state moves old failed new

@@ -1,4 +1,4 @@
-use Rattle.std.proofs.Common.{◌≡◌, ◌⊎◌, inl, inr, ⊎_elim, ℕ, zero, suc, ◌+◌, ◌*◌, ◌/◌, ◌%◌, ◌<◌, ◌≤◌, Bool, true, false, cond, List, [], ◌∷◌, ◌++◌, length, map, take, refl, sym, ap, subst, ◌∙◌, append_assoc, append-nil, arith}
+use Rattle.std.proofs.Common.{◌≡◌, ⊎_elim, ℕ, zero, suc, ◌+◌, ◌*◌, ◌/◌, ◌%◌, ◌<◌, ◌≤◌, Bool, true, false, cond, List, [], ◌∷◌, ◌++◌, length, map, take, refl, sym, ap, subst, ◌∙◌, append_assoc, append-nil, arith}
 use Rattle.std.specs.Prelude.{◌==◌}
 use Rattle.std.specs.List.{flat_map, range_with_len}
 use Rattle.std.specs.List.Sorted.{IsPermutation}
@@ -21,8 +21,8 @@ use Rattle.nvm_model.specs.declared.trace.Call.{Call}
 use Rattle.nvm_model.specs.declared.trace.Step.{Step}
 use Rattle.nvm_model.specs.declared.trace.Step.TheVariants.{Get, Put, Mark}
 use Rattle.nvm_model.specs.Chain.{Chain}
-use Rattle.nvm_model.specs.Medium.{At, IsAt, MediumState, all_at, marked, marks_at}
-use Rattle.nvm_model.specs.Run.{AllCopied, CopiesAll, Copy, CopyEnd, Here, IsItem, IsStage, IsTurn, Item, PieceCalled, PieceOnLane, Snapshot, Stage, TakesMoving, Task, TurnDone, at_block, by_side, calls_at, copies_of, copy_calls, due_after, gets_of, here_of, media_count, opposite, part_of, pieces_of, puts_of, resume_mark, suspend_mark, there_of, turn_calls, turn_mark}
+use Rattle.nvm_model.specs.Medium.{At, MediumState, all_at, marked, marks_at}
+use Rattle.nvm_model.specs.Run.{AllCopied, Copy, CopyEnd, Here, IsItem, IsStage, Item, PieceCalled, PieceOnLane, Snapshot, Stage, Task, TurnDone, by_side, calls_at, copies_of, copy_calls, gets_of, here_of, media_count, opposite, part_of, puts_of, resume_mark, there_of, turn_calls}
 use Rattle.nvm_model.specs.Run.CopyEnd.{Copied, NotRead, NotWritten}
 use Rattle.nvm_model.specs.Run.Item.{Served, Crossed}
 use Rattle.nvm_model.specs.Run.Stage.{Title, Turn, Begin, Round, Broken, Suspend, Resume, Stop, GiveUp, End}
@@ -522,6 +522,7 @@ pause_segment {M} state moves s who i old front x side n copies pages y back fre
   where
     steps : List (List Step)
     steps = []
+
     sides : {gets puts : List Step} (w k : Side) → block_steps (λ b. Get b) s.head.shelf i (map (λ (c : Copy). c.block) copies) ≡ gets → block_steps (λ b. Put b) s.head.shelf i (map (λ (c : Copy). c.block) copies) ≡ puts →
         steps_at i (by_side w k (flat_map (gets_of s.head.shelf) copies) (flat_map (puts_of s.head.shelf) copies)) ≡ by_side w k gets puts
     sides Source Source p q = (copies_here s.head.shelf i copies r.copies_all.copied).0 ∙ p

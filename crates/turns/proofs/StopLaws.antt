@@ -1,4 +1,4 @@
-use Rattle.std.proofs.Common.{◌≡◌, ◌⊎◌, ◌||◌, ℕ, ◌+◌, inl, inr, ⊎_elim, Bool, true, false, List, [], ◌∷◌, ◌++◌, Option, Some, None, length, map, refl, sym, ap, subst, ◌∙◌, append_assoc, append-nil, arith}
+use Rattle.std.proofs.Common.{◌≡◌, ◌⊎◌, ◌||◌, ℕ, ◌+◌, inl, inr, ⊎_elim, Bool, true, false, List, [], ◌∷◌, ◌++◌, Option, Some, None, length, refl, sym, ap, subst, ◌∙◌, append_assoc, append-nil, arith}
 use Rattle.std.specs.Prelude.{slice_get}
 use Rattle.std.specs.List.{flat_map, list_any}
 use Rattle.std.proofs.lemmas.List.Folds.{list_any-append}
@@ -27,7 +27,7 @@ use Rattle.nvm_model.specs.World.{World, start_world}
 use Rattle.nvm_model.specs.declared.run.RunPhase.TheVariants.{New, Running, Moving, Suspended, Stopped}
 use Rattle.nvm_model.specs.declared.run.Side.{Side}
 use Rattle.nvm_model.specs.declared.run.Side.TheVariants.{Source, Destination}
-use Rattle.nvm_model.specs.Run.{IsCutDue, IsStage, IsTitle, IsWritten, Snapshot, Stage, TakesTurn, TurnDone, Went, lines_in, lines_of, opposite, restart_line, turn_lines}
+use Rattle.nvm_model.specs.Run.{IsStage, IsTitle, IsWritten, Snapshot, Stage, TakesTurn, TurnDone, Went, lines_in, lines_of, restart_line, turn_lines}
 use Rattle.nvm_model.specs.Run.Stage.{Title, Turn, Begin, Round, Broken, Suspend, Resume, Stop, GiveUp, End}
 use Rattle.nvm_model.specs.Told.{HasStopped, have_resumed, Holds, IsUntouched, resumes, SideHolds, Tells, faults_of, is_migrate}
 use Rattle.turns.proofs.CalmLaws.{faults_more}

@@ -20,7 +20,7 @@ use Rattle.nvm_model.specs.declared.run.RunPhase.{RunPhase}
 use Rattle.nvm_model.specs.declared.run.RunPhase.TheVariants.{New, Running, Moving, Suspended, Stopped, Over}
 use Rattle.nvm_model.specs.declared.run.Side.{Side}
 use Rattle.nvm_model.specs.declared.run.Side.TheVariants.{Source, Destination}
-use Rattle.nvm_model.specs.Run.{AllCopied, AreComplete, CopiesAll, Copy, CopyEnd, Here, IsItem, Item, copies_of, due_after, IsBegin, IsBroken, IsCutDue, IsDue, IsEnd, IsGiveUp, IsResume, IsRound, IsStage, IsStop, IsSuspend, IsTitle, IsTurn, SinkState, Snapshot, Stage, TakesTurn, Task, TurnDone, among, here, lines_in, lines_of, memory_of, opposite, restart_line, resume_mark, start_lanes, suspend_mark, turn_lines, gets_of, puts_of}
+use Rattle.nvm_model.specs.Run.{AllCopied, AreComplete, Copy, CopyEnd, Here, IsItem, Item, copies_of, due_after, IsBegin, IsBroken, IsCutDue, IsDue, IsEnd, IsGiveUp, IsResume, IsRound, IsStage, IsStop, IsSuspend, IsTitle, IsTurn, Snapshot, Stage, TakesTurn, Task, TurnDone, among, here, lines_in, lines_of, memory_of, opposite, restart_line, resume_mark, suspend_mark, turn_lines, gets_of, puts_of}
 use Rattle.nvm_model.specs.Run.CopyEnd.{Copied, NotRead, NotWritten}
 use Rattle.nvm_model.specs.Run.Item.{Served, Crossed}
 use Rattle.nvm_model.specs.Run.Stage.{Title, Turn, Begin, Round, Broken, Suspend, Resume, Stop, GiveUp, End}
@@ -30,7 +30,7 @@ use Rattle.turns.proofs.CrossLaws.{chain_split, marks_tell, resume_same}
 use Rattle.turns.proofs.MediaLaws.{after_failed}
 use Rattle.turns.proofs.FrameLemmas.{events_in_more, pieces_in_more, turns_more}
 use Rattle.turns.proofs.PieceLaws.{Blocks, copy_here, told_length, turn_told, world_of}
-use Rattle.turns.proofs.RoundLaws.{NextRound, Owes, Stands, next_broken, next_round, rounds_more}
+use Rattle.turns.proofs.RoundLaws.{Owes, Stands, next_broken, next_round, rounds_more}
 
 -- What the stages of a run on one thread come to, from a start at which the media of both sides tell their blocks.
 
@@ -331,31 +331,35 @@ round {M} {I} {state} {moves} {s} {blocks} {old} {x} {side} {n} {t} {lost} {b} {
     let is = subst (λ (o : Owed). IsRoundText (serial s) c.words (0 + length c.rounds) c.world o text next.v) g.owed (subst (λ (k : ℕ). IsRoundText (serial s) c.words k c.world x.owed text next.v) (omega (arith, g.rounds))
     (subst (λ (k : ℕ). IsRoundText (serial s) k x.rounds c.world x.owed text next.v) g.drawn next.is)) in
     let same : round_text text ≡ lines_of (Round side n t lost b p) = ap (λ (m : ℕ). turn_lines t ++ (restart_line lost ++ line.Round m (length y.owed.pages) ∷ [])) (sym r.told.0) ∙ ap (λ (m : ℕ). turn_lines t ++ (restart_line lost ++ line.Round b m ∷ [])) (sym r.told.1) in
-    let front = line.Title ∷ line.Ready ∷ events_in c.before in
-    (record {
-      course = record {
-        turn = c.turn;
-        asked = c.asked;
-        before = c.before;
-        mid = c.mid;
-        are_before = c.are_before;
-        begins = c.begins;
-        rounds = c.rounds ++ text ∷ [];
-        world = next.v;
-        owed = y.owed;
-        words = c.words + pieces_in (turn_lines t) + copies_due s c.owed;
-        in_rounds = rounds_more (serial s) (pieces_in (events_in c.before)) 0 c.mid (all_owed s.head) c.rounds c.world c.owed c.words text next.v c.in_rounds is;
-      };
-      tried = ap (λ (z : Snapshot M). z.tried) r.after ∙ g.tried;
-      rounds = ap (λ (z : Snapshot M). z.rounds) r.after ∙ omega (arith, g.rounds, length-append c.rounds (text ∷ []));
-      owed = refl;
-      drawn = omega (arith, next.drawn, g.drawn, ap (λ (o : Owed). copies_due s o) g.owed);
-      stands = record { task = ap (λ (z : Snapshot M). z.task) r.after ∙ g.stands.task; lanes = next.lanes; tells = next.tells };
-      owes = λ others told. next.owes (g.owes others told);
-      side = ap (λ (z : Snapshot M). z.side) r.after ∙ g.side;
-      lines_are = ap (λ (ls : List Line). ls ++ lines_of (Round side n t lost b p)) (g.lines_are ∙ append-nil (course_lines c)) ∙ append_assoc front (line.Migrate ∷ flat_map round_text c.rounds) (lines_of (Round side n t lost b p))
-          ∙ ap (λ (ls : List Line). front ++ (line.Migrate ∷ ls)) (ap (λ (ls : List Line). flat_map round_text c.rounds ++ ls) (sym same) ∙ sym (round_push c.rounds text)) ∙ sym (append-nil (front ++ (line.Migrate ∷ flat_map round_text (c.rounds ++ text ∷ []))));
-    }, text, refl, refl)
+    let front = line.Title ∷ line.Ready ∷ events_in c.before in (
+      record {
+        course = record {
+          turn = c.turn;
+          asked = c.asked;
+          before = c.before;
+          mid = c.mid;
+          are_before = c.are_before;
+          begins = c.begins;
+          rounds = c.rounds ++ text ∷ [];
+          world = next.v;
+          owed = y.owed;
+          words = c.words + pieces_in (turn_lines t) + copies_due s c.owed;
+          in_rounds = rounds_more (serial s) (pieces_in (events_in c.before)) 0 c.mid (all_owed s.head) c.rounds c.world c.owed c.words text next.v c.in_rounds is;
+        };
+        tried = ap (λ (z : Snapshot M). z.tried) r.after ∙ g.tried;
+        rounds = ap (λ (z : Snapshot M). z.rounds) r.after ∙ omega (arith, g.rounds, length-append c.rounds (text ∷ []));
+        owed = refl;
+        drawn = omega (arith, next.drawn, g.drawn, ap (λ (o : Owed). copies_due s o) g.owed);
+        stands = record { task = ap (λ (z : Snapshot M). z.task) r.after ∙ g.stands.task; lanes = next.lanes; tells = next.tells };
+        owes = λ others told. next.owes (g.owes others told);
+        side = ap (λ (z : Snapshot M). z.side) r.after ∙ g.side;
+        lines_are = ap (λ (ls : List Line). ls ++ lines_of (Round side n t lost b p)) (g.lines_are ∙ append-nil (course_lines c)) ∙ append_assoc front (line.Migrate ∷ flat_map round_text c.rounds) (lines_of (Round side n t lost b p))
+            ∙ ap (λ (ls : List Line). front ++ (line.Migrate ∷ ls)) (ap (λ (ls : List Line). flat_map round_text c.rounds ++ ls) (sym same) ∙ sym (round_push c.rounds text)) ∙ sym (append-nil (front ++ (line.Migrate ∷ flat_map round_text (c.rounds ++ text ∷ []))));
+      },
+      text,
+      refl,
+      refl,
+    )
 
 -- The guests are suspended where this is due.
 
@@ -391,23 +395,27 @@ resume {M} {I} {state} {moves} {s} {blocks} {old} {x} {side} {n} {copies} {pages
     let both = resume_same state moves s n s.head.blocks x.owed.blocks copies x.at x.other y.other y.at c.world.blocks o.others r.copies_all gets puts g.stands.tells o.tells o.differ in
     let count : length copies ≡ length c.owed.blocks = sym (length-map copies (λ (k : Copy). k.block)) ∙ ap (λ (bs : List ℕ). length bs) r.copies_all.each ∙ ap (λ (o : Owed). length o.blocks) g.owed in
     let few : pages ≡ length c.owed.pages = r.told ∙ ap (λ (o : Owed). length o.pages) g.owed in
-    subst (λ (z : Snapshot M). (v : Tried state s blocks z (lines ++ lines_of (Resume side n copies pages))) × (v.ending ≡ Moved) × (v.moved ≡ v.world)) (sym r.after) (record {
-      course = c;
-      tried = g.tried;
-      ending = Moved;
-      moved = c.world;
-      drawn = c.words;
-      ends = (due_on s (serial s) (serial s) x.owed c.owed x.rounds (length c.rounds) refl g.owed g.rounds due, refl, refl);
-      after = [];
-      world = c.world;
-      are_after = refl;
-      drawn_is = omega (arith, g.drawn);
-      stands = record { task = task; lanes = g.stands.lanes; tells = both.1 };
-      side = ap opposite g.side;
-      behind = (both.0, ap (λ (k : Task). memory_of k.script x.lanes) task ∙ ap (memory_of s) g.stands.lanes);
-      lines_are = ap (λ (ls : List Line). ls ++ lines_of (Resume side n copies pages)) g.lines_are ∙ append_assoc (course_lines c) (line.Suspend ∷ []) (lines_of (Resume side n copies pages))
-          ∙ ap (λ (m : ℕ). course_lines c ++ (line.Suspend ∷ line.Pause m pages ∷ line.ResumeTo ∷ [])) count ∙ ap (λ (m : ℕ). course_lines c ++ (line.Suspend ∷ line.Pause (length c.owed.blocks) m ∷ line.ResumeTo ∷ [])) few;
-    }, refl, refl)
+    subst (λ (z : Snapshot M). (v : Tried state s blocks z (lines ++ lines_of (Resume side n copies pages))) × (v.ending ≡ Moved) × (v.moved ≡ v.world)) (sym r.after) (
+      record {
+        course = c;
+        tried = g.tried;
+        ending = Moved;
+        moved = c.world;
+        drawn = c.words;
+        ends = (due_on s (serial s) (serial s) x.owed c.owed x.rounds (length c.rounds) refl g.owed g.rounds due, refl, refl);
+        after = [];
+        world = c.world;
+        are_after = refl;
+        drawn_is = omega (arith, g.drawn);
+        stands = record { task = task; lanes = g.stands.lanes; tells = both.1 };
+        side = ap opposite g.side;
+        behind = (both.0, ap (λ (k : Task). memory_of k.script x.lanes) task ∙ ap (memory_of s) g.stands.lanes);
+        lines_are = ap (λ (ls : List Line). ls ++ lines_of (Resume side n copies pages)) g.lines_are ∙ append_assoc (course_lines c) (line.Suspend ∷ []) (lines_of (Resume side n copies pages))
+            ∙ ap (λ (m : ℕ). course_lines c ++ (line.Suspend ∷ line.Pause m pages ∷ line.ResumeTo ∷ [])) count ∙ ap (λ (m : ℕ). course_lines c ++ (line.Suspend ∷ line.Pause (length c.owed.blocks) m ∷ line.ResumeTo ∷ [])) few;
+      },
+      refl,
+      refl,
+    )
 
 -- A copy failed.
 
@@ -463,28 +471,30 @@ broken {M} {I} {state} {moves} {s} {blocks} {old} {x} {side} {n} {t} {y} {lines}
     let few : length (copies_of t.items) ≤ copies_due s c.owed = subst (λ (o : Owed). length (copies_of t.items) ≤ copies_due s o) g.owed
     (subst (λ (k : Task). length (copies_of t.items) ≤ copies_due k.script x.owed) task (few_copies state moves x.task _ t.items _ r.moving.turn.working)) in
     let not : IsCutDue s.head c.owed (length c.rounds) → ⊥ = λ due. r.moving.not_due
-    (subst (λ (k : Task). IsCutDue k.script.head x.owed x.rounds) (sym task) (due_on s (serial s) (serial s) c.owed x.owed (length c.rounds) x.rounds refl (sym g.owed) (sym g.rounds) due)) in
-    (record {
-      course = c;
-      tried = ap (λ (z : Snapshot M). z.tried) r.after ∙ g.tried;
-      ending = Broke (turn_lines t);
-      is_halt = tt;
-      world = next.v;
-      drawn = y.drawn;
-      ends = (
-        not,
-        next.turn,
-        (λ none. subst (λ (ls : List Lane). Complete s (among ls)) g.stands.lanes (subst (λ (k : Task). Complete k.script (among x.lanes)) task (r.moving.some none))),
-        length (copies_of t.items),
-        some_copies (copies_of t.items) r.failed,
-        few,
-        omega (arith, next.drawn, g.drawn),
-      );
-      drawn_is = refl;
-      stands = record { task = ap (λ (z : Snapshot M). z.task) r.after ∙ task; lanes = next.lanes; tells = next.tells };
-      side = ap (λ (z : Snapshot M). z.side) r.after ∙ g.side;
-      lines_are = ap (λ (ls : List Line). ls ++ turn_lines t) (g.lines_are ∙ append-nil (course_lines c));
-    }, refl)
+    (subst (λ (k : Task). IsCutDue k.script.head x.owed x.rounds) (sym task) (due_on s (serial s) (serial s) c.owed x.owed (length c.rounds) x.rounds refl (sym g.owed) (sym g.rounds) due)) in (
+      record {
+        course = c;
+        tried = ap (λ (z : Snapshot M). z.tried) r.after ∙ g.tried;
+        ending = Broke (turn_lines t);
+        is_halt = tt;
+        world = next.v;
+        drawn = y.drawn;
+        ends = (
+          not,
+          next.turn,
+          (λ none. subst (λ (ls : List Lane). Complete s (among ls)) g.stands.lanes (subst (λ (k : Task). Complete k.script (among x.lanes)) task (r.moving.some none))),
+          length (copies_of t.items),
+          some_copies (copies_of t.items) r.failed,
+          few,
+          omega (arith, next.drawn, g.drawn),
+        );
+        drawn_is = refl;
+        stands = record { task = ap (λ (z : Snapshot M). z.task) r.after ∙ task; lanes = next.lanes; tells = next.tells };
+        side = ap (λ (z : Snapshot M). z.side) r.after ∙ g.side;
+        lines_are = ap (λ (ls : List Line). ls ++ turn_lines t) (g.lines_are ∙ append-nil (course_lines c));
+      },
+      refl,
+    )
 
 -- It is given up.
 

@@ -1,7 +1,5 @@
-use Rattle.std.proofs.Common.{◌≡◌, ◌||◌, ℕ, zero, suc, ◌+◌, ◌-◌, ◌≤◌, Bool, true, false, cond, List, [], ◌∷◌, ◌++◌, Option, Some, None, drop, filter, length, map, refl, sym, ap, subst, ◌∙◌, append_assoc, append-nil, arith}
-use Rattle.std.specs.Prelude.{IsTrue}
+use Rattle.std.proofs.Common.{◌≡◌, ◌||◌, ℕ, ◌+◌, ◌≤◌, Bool, true, false, cond, List, [], ◌∷◌, ◌++◌, Option, Some, None, drop, filter, length, refl, sym, ap, subst, ◌∙◌, append_assoc, append-nil, arith}
 use Rattle.std.specs.List.{AllByRecursion, flat_map, range_with_len}
-use Rattle.std.specs.Option.{option_map}
 use Rattle.std.proofs.lemmas.Bool.{false≢true}
 use Rattle.std.proofs.lemmas.List.{length-drop}
 use Rattle.std.proofs.lemmas.List.FromFn.{length-range_with_len}
@@ -9,9 +7,9 @@ use Rattle.mig_base.proofs.ListLemmas.{all_append}
 use Rattle.nvm_model.specs.declared.line.Line.{Line}
 use Rattle.nvm_model.specs.declared.line.Line.TheVariants as line
 use Rattle.nvm_model.specs.declared.script.Script.{Script}
-use Rattle.nvm_model.specs.History.{AreEvents, AreRounds, Complete, IsEnding, IsMigration, IsWhole, Migrates, Reaches, Steps, events_before_resume, events_of, has_given_up, is_event, lines_before_resume}
+use Rattle.nvm_model.specs.History.{AreEvents, AreRounds, Complete, IsEnding, IsMigration, IsWhole, Migrates, Reaches, Steps, events_of}
 use Rattle.nvm_model.specs.Owed.{Owed, Written, all_owed, blocks_of, either_of, is_among, owed_after, pages_of, restarted_if}
-use Rattle.nvm_model.specs.Rounds.{Ending, Ends, InRounds, IsRoundText, Moves, MovesInRounds, RoundText, RunsInRounds, copies_due, ending_text, round_text}
+use Rattle.nvm_model.specs.Rounds.{Ending, Ends, InRounds, Moves, MovesInRounds, RoundText, RunsInRounds, copies_due, ending_text, round_text}
 use Rattle.nvm_model.specs.Rounds.Ending.{Moved, Halted, Broke}
 use Rattle.nvm_model.specs.Run.{Task, restart_line}
 use Rattle.nvm_model.specs.ScriptText.{IsHead, IsScript}
@@ -21,7 +19,7 @@ use Rattle.nvm_model.specs.Turn.{Begins, Turns, events_in, pieces_in}
 use Rattle.nvm_model.specs.World.{World, start_world, window_pages}
 use Rattle.turns.specs.Range.{AreInRange}
 use Rattle.turns.proofs.FrameLemmas.{steps_are_events, steps_more, turn_steps, turns_steps}
-use Rattle.turns.proofs.LineLaws.{all_events, events_more, none_given_up, resume_later}
+use Rattle.turns.proofs.LineLaws.{all_events, events_more}
 use Rattle.turns.proofs.PieceLaws.{Blocks}
 use Rattle.turns.proofs.RangeLaws.{start_in_range, steps_are_lines, turns_are_lines}
 use Rattle.turns.proofs.ScriptLaws.{few_pages, start_count}

@@ -1,5 +1,5 @@
-use Rattle.std.proofs.Common.{◌≡◌, ℕ, zero, suc, ◌+◌, ◌-◌, ◌<◌, Bool, cond, List, [], ◌∷◌, ◌++◌, Option, Some, None, All, length, map, take, refl, sym, ap, subst, ◌∙◌, arith}
-use Rattle.std.specs.Prelude.{◌==◌, slice_get}
+use Rattle.std.proofs.Common.{◌≡◌, ℕ, zero, suc, ◌<◌, Bool, cond, List, [], ◌∷◌, ◌++◌, Option, Some, None, All, map, take, refl, sym, ap, subst, ◌∙◌, arith}
+use Rattle.std.specs.Prelude.{slice_get}
 use Rattle.std.proofs.lemmas.Bool.{eq-eqb, ne_eqb}
 use Rattle.std.proofs.lemmas.List.Elements.{All-head, All-tail}
 use Rattle.nvm_model.specs.declared.command.Command.{Command}
@@ -7,12 +7,11 @@ use Rattle.nvm_model.specs.declared.command.Work.{Work}
 use Rattle.nvm_model.specs.declared.line.Line.{Line}
 use Rattle.nvm_model.specs.declared.line.Line.TheVariants as line
 use Rattle.nvm_model.specs.declared.script.Script.{Script}
-use Rattle.nvm_model.specs.Event.{One}
 use Rattle.nvm_model.specs.History.{Steps}
 use Rattle.nvm_model.specs.Owed.{Written, written_by}
 use Rattle.nvm_model.specs.Piece.{piece_count, pieces_left}
 use Rattle.nvm_model.specs.Rounds.{Wrote, next_work, work_at}
-use Rattle.nvm_model.specs.Run.{PieceCalled, PieceOnLane, piece_line}
+use Rattle.nvm_model.specs.Run.{PieceCalled, PieceOnLane}
 use Rattle.nvm_model.specs.Turn.{pieces_in}
 use Rattle.nvm_model.specs.World.{Lane, World}
 use Rattle.turns.proofs.FrameLemmas.{pieces_in_more}

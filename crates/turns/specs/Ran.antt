@@ -1,4 +1,4 @@
-use Rattle.std.specs.Prelude.{◌≡◌, ℕ, ◌≤◌, Bool, true, false, List, length}
+use Rattle.std.specs.Prelude.{◌≡◌, ℕ, Bool, true, false, List, length}
 use Rattle.std.specs.List.{flat_map}
 use Rattle.mig_base.specs.Count.{NeverFall, RiseBy, RisesIf}
 use Rattle.nvm_model.specs.declared.script.Script.{Script}

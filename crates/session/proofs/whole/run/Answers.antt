@@ -7,6 +7,19 @@ use Rattle.session.proofs.StageLemmas.{goes_more, on_destination, on_source}
 use Rattle.session.proofs.ServedLemmas.{left_here, left_running, left_there, left_tried, served_none}
 use Rattle.session.proofs.whole.run.Goals as goal
 
+pub turns-requires : goal.turns-requires
+turns-requires g c =
+    let is = c.in_ok-begin.ensures.session in
+    let ready = subst (λ (s : SessionState). IsReady s.script (machine_of s c.args.from.now)) (sym is) c.requires.ready in
+    let turns = ap (λ (s : SessionState). s.turns) is ∙ c.requires.new.turns in
+    record { phase = ap (λ (s : SessionState). s.phase) is; ready = ready; few = omega (arith, turns, few_turns ready) }
+
+pub returns-then-not-branch-clause-ended : goal.returns-then-not-branch-clause-ended
+returns-then-not-branch-clause-ended g c =
+    let stop = c.in_ok-turns.ensures.stops in
+    let untried = c.turns.ensures.onward.tried ∙ ap (λ (s : SessionState). s.tried) c.in_ok-begin.ensures.session ∙ c.requires.new.tried in
+    if_ok c.end.result (λ ending done. subst (λ (e : Ending). HasEnded e c.end.new.self) (sym done) (?)) c.end.ensures.ended
+
 pub returns-in_err-turns-clause-went : goal.returns-in_err-turns-clause-went
 returns-in_err-turns-clause-went g c =
     let p = err_from_is_err_and c.from_residual-in_err-turns.result c.from_residual-in_err-turns.ensures.1 in
