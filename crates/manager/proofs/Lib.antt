@@ -4,4 +4,5 @@ pub mod CopyLemmas
 pub mod StateLemmas
 pub mod StepLemmas
 pub mod MoveLemmas
+pub mod OwedLemmas
 pub mod PortLaws

@@ -1,9 +1,9 @@
-use Rattle.std.specs.Prelude.{◌≡◌, ◌≤◌, false, replicate, vec_capacity, vec_len}
+use Rattle.std.specs.Prelude.{◌≡◌, ◌≤◌, replicate, vec_capacity, vec_len}
 use Rattle.manager.proofs.owed.Owed.make.Given as goal
 
 abbrev pub invariant-loop : goal.invariant-loop
 invariant-loop l = record {
-  items : l.places.items ≡ replicate l.counter false;
-  count : vec_len l.places ≡ l.counter;
-  capacity : l.size ≤ vec_capacity l.places;
+  items : l.counts.items ≡ replicate l.counter 0;
+  count : vec_len l.counts ≡ l.counter;
+  capacity : l.groups ≤ vec_capacity l.counts;
 }

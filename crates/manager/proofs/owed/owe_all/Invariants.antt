@@ -1,8 +1,0 @@
-use Rattle.std.specs.Prelude.{◌≡◌, length, replicate, take, true}
-use Rattle.manager.proofs.owed.owe_all.Given as goal
-
-abbrev pub invariant-loop-place : goal.invariant-loop-place
-invariant-loop-place l = record {
-  owed : take l.place l.places.items ≡ replicate l.place true;
-  size : length l.places.items ≡ length l.fn.places.items;
-}
