@@ -1,5 +1,5 @@
 //! A move of a manager over a port of its own, with two real controllers.
-ghost use Rattle.std.specs.Prelude.{◌≡◌, All, [], IfOk, Some, length, true};
+ghost use Rattle.std.specs.Prelude.{◌≡◌, All, [], IfOk, Some, length, true, Unit, refl};
 ghost use Rattle.adm_values.specs.Command.{IsCommand, command_bytes};
 ghost use Rattle.ctl_state.specs.Admin.{Answers, FitsBuffer};
 ghost use Rattle.manager.specs.Move.{Fits, MayCutOver, with_all};
@@ -8,7 +8,7 @@ ghost use Rattle.manager.specs.declared.manager.MovePhase.TheVariants.{Begun};
 use controller::{Controller, PairSet, Phase};
 use guest_ram::Ram;
 use manager::{
-    AdminCmd, AdminCpl, CopyAnswer, Manager, MediumFault, MoveSet, Pause, Port, Side, WorkPort,
+    AdminCmd, AdminCpl, Change, CopyAnswer, Manager, MediumFault, MoveSet, Pause, Port, Side, WorkPort,
 };
 use mig_base::OutOfMemory;
 use std::alloc::Global;
@@ -33,7 +33,39 @@ struct FakePort {
 }
 
 impl WorkPort for FakePort {
-    ghost Inside = { Unit {0} };
+    ghost use Rattle.manager.specs.Port.{PortState, work_of, works_port};
+
+    ghost Inside = { PortState (Unit {0}) };
+
+    ghost work = { λ p. work_of (record {
+      from = record { blocks = Some p.from.blocks; faults = p.from.faults; pages = p.from.pages; controller = p.from.controller };
+      to = record { blocks = Some p.to.blocks; faults = p.to.faults; pages = p.to.pages; controller = p.to.controller };
+      count = 4;
+      left = p.left;
+      inside = tt;
+    }) };
+
+    ghost works = { works_port (λ old call new. Unit {0}) };
+
+    ghost seated = { λ p. Unit {0} };
+
+    fn copy(&mut self, b: u32) -> CopyAnswer {
+        self.left -= 1;
+        if self.broken == Some(b) {
+            self.to.faults = self.to.faults.saturating_add(1);
+            return CopyAnswer::Fault { side: Side::To };
+        }
+        self.to.blocks[b as usize] = self.from.blocks[b as usize];
+        CopyAnswer::Copied
+    }
+
+    fn take(&mut self) -> Option<Change> {
+        self.from.controller.take_change()
+    }
+}
+
+impl Port for FakePort {
+    ghost Meaning = { Unit {0} };
 
     ghost state = { λ p. record {
       from = record { blocks = Some p.from.blocks; faults = p.from.faults; pages = p.from.pages; controller = p.from.controller };
@@ -45,18 +77,6 @@ impl WorkPort for FakePort {
 
     ghost moves = { λ old call new. Unit {0} };
 
-    fn copy(&mut self, b: u32) -> CopyAnswer {
-        self.left -= 1;
-        if self.broken == Some(b) {
-            self.to.faults = self.to.faults.saturating_add(1);
-            return CopyAnswer::Fault { side: Side::To };
-        }
-        self.to.blocks[b as usize] = self.from.blocks[b as usize];
-        CopyAnswer::Copied
-    }
-}
-
-impl Port for FakePort {
     fn admin(&mut self, side: Side, cmd: &AdminCmd, bytes: &mut [u8]) -> AdminCpl {
         self.left -= 1;
         match side {
@@ -73,6 +93,12 @@ impl Port for FakePort {
     fn mark(&mut self, _n: u64) {
         self.left -= 1;
     }
+
+    ghost same = { λ p. record { count = refl; left = refl } };
+
+    ghost calls = { λ p q cost c call. call.done };
+
+    ghost always = { λ p. tt };
 }
 
 fn send(cmd: &AdminCmd, side: &mut FakeSide, bytes: &mut [u8]) -> AdminCpl
@@ -98,8 +124,8 @@ const SET: MoveSet = MoveSet {
 
 /// A controller of one pair, whose guest submitted one entry, and one that waits for its state.
 fn start(alloc: Global, broken: Option<u32>) -> Result<FakePort, OutOfMemory>
-    ensures sides { IfOk result (λ p. MayCutOver (⟦<FakePort as WorkPort>⟧.state p)) }
-    ensures fits { IfOk result (λ p. Fits (with_all true Begun SET) (⟦<FakePort as WorkPort>⟧.state p)) }
+    ensures sides { IfOk result (λ p. MayCutOver (⟦<FakePort as Port>⟧.state p)) }
+    ensures fits { IfOk result (λ p. Fits (with_all true Begun SET) (⟦<FakePort as Port>⟧.state p)) }
     ensures left { IfOk result (λ p. p.left ≡ 524288) }
 {
     let pairs = [PairSet {

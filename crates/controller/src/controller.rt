@@ -1,4 +1,4 @@
-ghost use Rattle.std.specs.Prelude.{◌≡◌, ◌+◌, ◌*◌, ◌/◌, ◌≤◌, ◌<◌, IfOk, All, length, map, sum};
+ghost use Rattle.std.specs.Prelude.{◌≡◌, ◌+◌, ◌*◌, ◌/◌, ◌≤◌, ◌<◌, IfOk, IfSome, All, length, map, sum};
 ghost use Rattle.nvm_values.specs.declared.op.Op.TheVariants.{Flush, Read};
 ghost use Rattle.nvm_model.specs.ScriptText.{IsSet};
 ghost use Rattle.guest_ram.specs.Window.{data_pages};
@@ -6,7 +6,8 @@ ghost use Rattle.hall.specs.Plan.{pieces_of};
 ghost use Rattle.nvm_blocks.specs.Namespace.{HasAppliedIn, HasRoom, IsForNamespace, entries_of, with_entry};
 ghost use Rattle.nvm_blocks.specs.Work.{IsSameButData};
 ghost use Rattle.ctl_state.specs.declared.phase.Phase.TheVariants.{Running, Loading};
-ghost use Rattle.ctl_state.specs.Controller.{pair_of};
+ghost use Rattle.ctl_state.specs.Controller.{TakesChange, pair_of};
+ghost use Rattle.data_queue.specs.Change.{IsChange};
 ghost use Rattle.controller.specs.Pair.{AtLane, FetchesLane, FetchesTurn, IsMade, PostsLane, PostsTurn, RingsCq, RingsReaped, RingsSq};
 ghost use Rattle.controller.specs.Changes.{Notes, changed_count};
 
@@ -197,6 +198,17 @@ impl Controller {
             };
             self.tracker.note(Change { span }, &mut self.queue);
         }
+    }
+
+    /// Takes the oldest change of its queue that isn't taken: `None` exactly where there is none, or the queue isn't live.
+    pub fn take_change(&mut self) -> Option<Change>
+        ensures change { IfSome result IsChange }
+        ensures taken { TakesChange self.old result self.new }
+    {
+        if !self.queue.live() {
+            return None;
+        }
+        self.queue.take()
     }
 
     /// Posts the completions of a lane's fetched commands. `results` has one result for each piece of the lane's plan, in

@@ -1,9 +1,11 @@
-use Rattle.std.specs.Prelude.{◌-◌, ℕ, Bool, true, List, [], slice_index_or}
+use Rattle.std.specs.Prelude.{◌≡◌, ◌-◌, ℕ, Bool, true, List, [], Option, None, slice_index_or}
+use Rattle.std.specs.Bool.{MatchBool}
 use Rattle.nvm_values.specs.Status.{StatusPair}
 use Rattle.nvm_model.specs.declared.command.Command.{Command}
 use Rattle.nvm_model.specs.declared.ring.RingState.{RingState}
 use Rattle.nvm_model.specs.Ring.{CqState}
-use Rattle.data_queue.specs.Log.{QueueState}
+use Rattle.data_queue.specs.declared.change.Change.{Change}
+use Rattle.data_queue.specs.Log.{QueueState, Takes}
 use Rattle.ctl_state.specs.declared.phase.Phase.{Phase}
 use Rattle.ctl_state.specs.Parts.{PartsState}
 
@@ -42,3 +44,8 @@ no_pair = record {
 
 abbrev pub pair_of : ControllerState → ℕ → PairState
 pair_of c k = slice_index_or c.pairs (k - 1) no_pair
+
+-- The oldest change that isn't taken was taken from its queue, or none was: there is none, or the queue isn't live.
+pub record TakesChange (old : ControllerState) (answer : Option Change) (new : ControllerState) : Type 0 where
+  pub taken : MatchBool old.queue.live (Takes answer old.queue new.queue) ((answer ≡ None) × (new.queue ≡ old.queue))
+  pub others : new ≡ record old { queue = new.queue }

@@ -5,26 +5,36 @@ use Rattle.nvm_model.specs.Medium.{At, marks_at}
 use Rattle.nvm_model.specs.Run.{CopiesAll, CopiesUpTo, Copy, CopyEnd}
 use Rattle.nvm_model.specs.Run.CopyEnd.{Copied as BlockCopied, NotRead, NotWritten}
 use Rattle.manager.specs.declared.side.CopyAnswer.{CopyAnswer}
-use Rattle.manager.specs.declared.side.CopyAnswer.TheVariants.{Copied, Fault}
+use Rattle.manager.specs.declared.side.CopyAnswer.TheVariants.{Copied, Busy, Fault}
 use Rattle.manager.specs.declared.side.Side.{Side}
 use Rattle.manager.specs.declared.side.Side.TheVariants.{From, To}
 use Rattle.manager.specs.Asks.{Ask, asked, copy_asks, cut_over_asks, page_asks, part_asks, resume_asks, state_asks, stop_asks, stopped_asks, suspend_asks}
 use Rattle.manager.specs.Asks.Ask.{Copy as AskCopy}
 use Rattle.manager.specs.Port.{PortCall}
-use Rattle.manager.specs.Port.PortCall.{Copy as Copying, Admin as Commanding, CopyPage as CopyingPage, Mark as Marking}
+use Rattle.manager.specs.Port.PortCall.{Copy as Copying, Take as Taking, Admin as Commanding, CopyPage as CopyingPage, Mark as Marking}
 
 -- What the calls that a manager asks for come to at the media of a side: marks, and the calls of copies, as a stage of a run
 -- has them.
 
--- how a copy ended
-abbrev pub end_of : CopyAnswer → CopyEnd
-end_of Copied = BlockCopied
-end_of (Fault From) = NotRead
-end_of (Fault To) = NotWritten
+-- what is called for a copy by how it ended; one that found its shelf busy called nothing
+abbrev pub ended_so : CopyAnswer → (CopyEnd → List At) → List At
+ended_so Copied of = of BlockCopied
+ended_so (Busy holder) of = []
+ended_so (Fault From) of = of NotRead
+ended_so (Fault To) of = of NotWritten
+
+abbrev fault_end : Side → CopyEnd
+fault_end From = NotRead
+fault_end To = NotWritten
+
+fault_so : (side : Side) (of : CopyEnd → List At) → ended_so (Fault side) of ≡ of (fault_end side)
+fault_so From of = refl
+fault_so To of = refl
 
 -- the calls of a port's call at a side of so many media, where those of a copy there are given
 abbrev pub calls_in : ℕ → (Copy → List At) → PortCall → List At
-calls_in count of (Copying b bytes answer) = of (record { block = b; bytes = bytes; ended = end_of answer })
+calls_in count of (Copying b bytes answer) = ended_so answer (λ (ended : CopyEnd). of (record { block = b; bytes = bytes; ended = ended }))
+calls_in count of (Taking answer) = []
 calls_in count of (Commanding side cmd bytes cpl new_bytes) = []
 calls_in count of (CopyingPage page) = []
 calls_in count of (Marking n) = marks_at count n
@@ -41,7 +51,7 @@ asked_tail e = cc
 abbrev ComeTo : ℕ → ((Copy → List At) → List At) → List PortCall → List Ask → Type 0
 ComeTo count made calls rest = (back : List PortCall) × (map asked back ≡ rest) × ((of : Copy → List At) → all_in count of calls ≡ made of ++ all_in count of back)
 
-not_copied : (side : Side) → end_of (Fault side) ≡ BlockCopied → ⊥
+not_copied : (side : Side) → fault_end side ≡ BlockCopied → ⊥
 not_copied From e = cc
 not_copied To e = cc
 
@@ -61,16 +71,18 @@ module _ (count t : ℕ) where
   state_handed k (suc n) last length rest (Commanding from get bytes got new_bytes ∷ Commanding to set part cpl new_part ∷ calls) is = state_handed (k + 1) n last length rest calls (asked_tail (asked_tail is))
   state_handed k _ last length rest _ is = absurd cc
 
-  copied : (b : ℕ) (answer : CopyAnswer) (rest : List Ask) (calls : List PortCall) → map asked calls ≡ AskCopy b answer ∷ rest → (copy : Copy) × (copy.block ≡ b) × (copy.ended ≡ end_of answer) × ComeTo count (λ of. of copy) calls rest
-  copied b answer rest (Copying k bytes how ∷ calls) is =
+  copied : (b : ℕ) (answer : CopyAnswer) (end : CopyEnd) → ((of : CopyEnd → List At) → ended_so answer of ≡ of end) → (rest : List Ask) (calls : List PortCall) → map asked calls ≡ AskCopy b answer ∷ rest →
+      (copy : Copy) × (copy.block ≡ b) × (copy.ended ≡ end) × ComeTo count (λ of. of copy) calls rest
+  copied b answer end so rest (Copying k bytes how ∷ calls) is =
       let same : how ≡ answer = cc in
-      (record { block = k; bytes = bytes; ended = end_of how }, cc, ap end_of same, (calls, asked_tail is, λ of. refl))
-  copied b answer rest _ is = absurd cc
+      let copy : CopyEnd → Copy = λ ended. record { block = k; bytes = bytes; ended = ended } in
+      (copy end, cc, refl, (calls, asked_tail is, λ of. ap (λ (xs : List At). xs ++ all_in count of calls) (ap (λ (a : CopyAnswer). ended_so a (λ ended. of (copy ended))) same ∙ so (λ ended. of (copy ended)))))
+  copied b answer end so rest _ is = absurd cc
 
   all_copied : (blocks : List ℕ) (rest : List Ask) (calls : List PortCall) → map asked calls ≡ copy_asks blocks ++ rest → (copies : List Copy) × CopiesAll blocks copies × ComeTo count (λ of. flat_map of copies) calls rest
   all_copied [] rest calls is = ([], record { each = refl; copied = tt }, (calls, is, λ of. refl))
   all_copied (b ∷ blocks) rest calls is =
-      let one = copied b Copied (copy_asks blocks ++ rest) calls is in
+      let one = copied b Copied BlockCopied (λ of. refl) (copy_asks blocks ++ rest) calls is in
       let more = all_copied blocks rest one.3.0 one.3.1 in
       let come = come_more (λ of. of one.0) (λ of. flat_map of more.0) calls (copy_asks blocks ++ rest) rest one.3 more.2 in
       (one.0 ∷ more.0, record { each = λ k. one.1 k ∷ more.1.each k; copied = (one.2, more.1.copied) }, come)
@@ -113,7 +125,7 @@ stopped_calls count t front b others side calls is =
     let last = AskCopy b (Fault side) ∷ resume_asks From t in
     let s = suspended count t mid calls is in
     let good = all_copied count t front last s.0 (s.1 ∙ append_assoc (copy_asks front) (AskCopy b (Fault side) ∷ []) (resume_asks From t)) in
-    let bad = copied count t b (Fault side) (resume_asks From t) good.2.0 good.2.1 in
+    let bad = copied count t b (Fault side) (fault_end side) (fault_so side) (resume_asks From t) good.2.0 good.2.1 in
     let come = come_more count t (λ of. flat_map of good.0) (λ of. of bad.0) s.0 last (resume_asks From t) good.2 bad.3 in
     let up_to : CopiesUpTo (front ++ b ∷ others) (good.0 ++ bad.0 ∷ []) = record {
       good = good.0;

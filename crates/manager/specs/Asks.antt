@@ -9,18 +9,20 @@ use Rattle.manager.specs.declared.side.CopyAnswer.TheVariants.{Copied, Fault}
 use Rattle.manager.specs.declared.side.Side.{Side}
 use Rattle.manager.specs.declared.side.Side.TheVariants.{From, To}
 use Rattle.manager.specs.Port.{IsPortCall, PortCall, PortState}
-use Rattle.manager.specs.Port.PortCall.{Copy as Copying, Admin as Commanding, CopyPage as CopyingPage, Mark as Marking}
+use Rattle.manager.specs.Port.PortCall.{Copy as Copying, Take as Taking, Admin as Commanding, CopyPage as CopyingPage, Mark as Marking}
 
 -- What a manager asks of a port: its calls without the bytes, of a copy with how it ended.
 
 pub data Ask : Type 0 where
   Copy : ℕ → CopyAnswer → Ask
+  Take : Ask
   Admin : Side → AdminCmd → Ask
   CopyPage : ℕ → Ask
   Mark : ℕ → Ask
 
 abbrev pub asked : PortCall → Ask
 asked (Copying b bytes answer) = Copy b answer
+asked (Taking answer) = Take
 asked (Commanding side cmd bytes cpl new_bytes) = Admin side cmd
 asked (CopyingPage page) = CopyPage page
 asked (Marking n) = Mark n

@@ -3,3 +3,4 @@ pub mod Move
 pub mod Owed
 pub mod Parts
 pub mod Port
+pub mod Work

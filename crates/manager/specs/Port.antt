@@ -5,11 +5,14 @@ use Rattle.adm_values.specs.declared.command.AdminCmd.{AdminCmd}
 use Rattle.adm_values.specs.declared.command.AdminCpl.{AdminCpl}
 use Rattle.adm_values.specs.Command.{IsCommand, command_bytes}
 use Rattle.ctl_state.specs.Admin.{Answers, FitsBuffer}
-use Rattle.ctl_state.specs.Controller.{ControllerState, PairState}
+use Rattle.ctl_state.specs.Controller.{ControllerState, PairState, TakesChange}
+use Rattle.data_queue.specs.declared.change.Change.{Change}
 use Rattle.manager.specs.declared.side.CopyAnswer.{CopyAnswer}
-use Rattle.manager.specs.declared.side.CopyAnswer.TheVariants.{Copied, Fault}
+use Rattle.manager.specs.declared.side.CopyAnswer.TheVariants.{Copied, Busy, Fault}
 use Rattle.manager.specs.declared.side.Side.{Side}
 use Rattle.manager.specs.declared.side.Side.TheVariants.{From, To}
+use Rattle.manager.specs.Work.{WorkCall, WorkState}
+use Rattle.manager.specs.Work.WorkCall.{Copy as CopyWork, Take as TakeWork}
 
 -- A port between the two sides of a move. Its calls are seen with their data.
 
@@ -38,6 +41,8 @@ side_of To p = p.to
 pub data PortCall : Type 0 where
   -- a block is got at the source and put at the destination
   Copy : ℕ → List ℕ → CopyAnswer → PortCall
+  -- the oldest change is taken from the source's queue
+  Take : Option Change → PortCall
   -- an admin command goes to a side's controller: its buffer before, its completion, and the buffer after
   Admin : Side → AdminCmd → List ℕ → AdminCpl → List ℕ → PortCall
   -- a window page is copied
@@ -47,19 +52,22 @@ pub data PortCall : Type 0 where
 
 -- A copy.
 
--- the bytes that came are the block's, where it was read
+-- The bytes that came are the block's, where it was read. Between two sides nothing is ever busy.
 abbrev pub IsRead : CopyAnswer → ℕ → List (List ℕ) → List ℕ → Type 0
 IsRead Copied b blocks bytes = bytes ≡ slice_index_or blocks b []
+IsRead (Busy holder) b blocks bytes = ⊥
 IsRead (Fault From) b blocks bytes = Unit {0}
 IsRead (Fault To) b blocks bytes = bytes ≡ slice_index_or blocks b []
 
 -- a copy that failed leaves every block
 abbrev pub with_copy : CopyAnswer → ℕ → List ℕ → List (List ℕ) → List (List ℕ)
 with_copy Copied b bytes blocks = slice_set blocks b bytes
+with_copy (Busy holder) b bytes blocks = blocks
 with_copy (Fault side) b bytes blocks = blocks
 
 abbrev pub HasCause : {I : Type 0} → CopyAnswer → PortState I → PortState I → Type 0
 HasCause Copied old new = Unit {0}
+HasCause (Busy holder) old new = ⊥
 HasCause (Fault side) old new = RisesBy 1 (side_of side old).faults (side_of side new).faults
 
 -- a side whose blocks and count of faults may have changed
@@ -105,9 +113,17 @@ pub record CopiesPage {I : Type 0} (old : PortState I) (page : ℕ) (new : PortS
 abbrev pub HasPage : {I : Type 0} → PortState I → ℕ → Type 0
 HasPage p page = (page < length p.from.pages) × (page < length p.to.pages)
 
+-- A take: of the source's controller the queue alone changes.
+pub record TakesFrom {I : Type 0} (old : PortState I) (answer : Option Change) (new : PortState I) : Type 0 where
+  pub controller : ControllerState
+  pub takes : TakesChange old.from.controller answer controller
+  pub from_is : new.from ≡ with_controller controller old.from
+  pub to_is : new.to ≡ old.to
+
 -- a mark is seen by the port's own meaning alone
 abbrev pub DoesCall : {I : Type 0} → PortState I → PortCall → PortState I → Type 0
 DoesCall old (Copy b bytes answer) new = Copies old b bytes answer new
+DoesCall old (Take answer) new = TakesFrom old answer new
 DoesCall old (Admin side cmd bytes cpl new_bytes) new = Commands old side cmd bytes cpl new_bytes new
 DoesCall old (CopyPage page) new = CopiesPage old page new
 DoesCall old (Mark n) new = (new.from ≡ old.from) × (new.to ≡ old.to)
@@ -118,3 +134,22 @@ pub record IsPortCall {I : Type 0} (moves : I → PortCall → I → Type 0) (ol
   pub count : new.count ≡ old.count
   pub left : old.left ≤ new.left + 1
   pub moved : moves old.inside c new.inside
+
+-- Work over a port.
+
+-- each call of work as one of a port
+abbrev pub port_call : WorkCall → PortCall
+port_call (CopyWork b bytes answer) = Copy b bytes answer
+port_call (TakeWork answer) = Take answer
+
+-- work has the same blocks and the same calls left
+pub record SameWork {I J : Type 0} (w : WorkState J) (p : PortState I) : Type 0 where
+  pub count : w.count ≡ p.count
+  pub left : w.left ≡ p.left
+
+-- A port's work can mean all that is seen of the port, and then each call of it is one of the port.
+abbrev pub work_of : {I : Type 0} → PortState I → WorkState (PortState I)
+work_of p = record { count = p.count; left = p.left; inside = p }
+
+abbrev pub works_port : {I : Type 0} → (I → PortCall → I → Type 0) → PortState I → WorkCall → PortState I → Type 0
+works_port moves old c new = IsPortCall moves old (port_call c) new

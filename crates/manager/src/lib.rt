@@ -13,6 +13,7 @@ mod side;
 mod steps;
 
 pub use adm_values::{AdminCmd, AdminCpl, What};
+pub use data_queue::Change;
 pub use manager::{Manager, MediumFault, MovePhase, MoveSet, Pause};
 pub use port::{Port, WorkPort};
 pub use side::{CopyAnswer, Side};

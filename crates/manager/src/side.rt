@@ -12,6 +12,8 @@ pub enum Side {
 pub enum CopyAnswer {
     /// The destination has the block.
     Copied,
+    /// Its shelf is in the hands of this holder now, and no block changed.
+    Busy { holder: u8 },
     /// A call of that side's medium failed, and no block changed.
     Fault { side: Side },
 }

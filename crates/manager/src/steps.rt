@@ -52,6 +52,8 @@ fn copy_block<P: Port>(b: u32, port: &mut P) -> Result<(), MediumFault>
 {
     match port.copy(b) {
         CopyAnswer::Copied => Ok(()),
+        // Between two whole sides no shelf is another's.
+        CopyAnswer::Busy { .. } => Ok(()),
         CopyAnswer::Fault { side } => Err(MediumFault { side }),
     }
 }

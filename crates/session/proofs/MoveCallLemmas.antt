@@ -6,10 +6,10 @@ use Rattle.nvm_model.specs.Run.{Copy, at_block, get_of, gets_of, put_of, puts_of
 use Rattle.nvm_model.proofs.ChainLemmas.{chain_more}
 use Rattle.guest_ram.specs.Ram.{shape}
 use Rattle.nvm_blocks.specs.Namespace.{NamespaceState, media_of, SameShelves}
-use Rattle.manager.specs.declared.side.CopyAnswer.TheVariants.{Copied, Fault}
+use Rattle.manager.specs.declared.side.CopyAnswer.TheVariants.{Copied, Busy, Fault}
 use Rattle.manager.specs.declared.side.Side.TheVariants.{From, To}
 use Rattle.manager.specs.Port.{PortCall}
-use Rattle.manager.specs.Port.PortCall.{Copy as Copying, Admin as Commanding, CopyPage as CopyingPage, Mark as Marking}
+use Rattle.manager.specs.Port.PortCall.{Copy as Copying, Take as Taking, Admin as Commanding, CopyPage as CopyingPage, Mark as Marking}
 use Rattle.session.specs.Place.{PlaceState}
 use Rattle.session.specs.Port.{CallsPlace, Ends, moves_place, moves_port}
 use Rattle.nvm_blocks.proofs.NamespaceLaws.{same_more, same_stay}
@@ -62,8 +62,10 @@ module _ {M I : Type 0} (state : M → MediumState I) (moves : I → Step → Bo
   from_goes : (old : Ends M (PlaceState M)) (c : PortCall) (new : Ends M (PlaceState M)) → moves_port state moves (moves_place state moves) old c new → IsShelved shelf count old.from →
       PlaceGoes state moves (calls_in count (gets_of shelf) c) old.from new.from
   from_goes old (Copying b bytes Copied) new m is = goes_block (λ k. at_block k b (get_of bytes false)) is.0 m.1.0
+  from_goes old (Copying b bytes (Busy holder)) new m is = absurd m.1
   from_goes old (Copying b bytes (Fault From)) new m is = goes_block (λ k. at_block k b (get_of [] true)) is.0 m.1.0
   from_goes old (Copying b bytes (Fault To)) new m is = goes_block (λ k. at_block k b (get_of bytes false)) is.0 m.1.0
+  from_goes old (Taking answer) new m is = goes_none (ap (λ (p : PlaceState M). p.namespace) m.1.0) (ap (λ (p : PlaceState M). shape p.windows) m.1.0)
   from_goes old (Commanding From cmd bytes cpl new_bytes) new m is = goes_none (ap (λ (p : PlaceState M). p.namespace) m.1.0) (ap (λ (p : PlaceState M). shape p.windows) m.1.0)
   from_goes old (Commanding To cmd bytes cpl new_bytes) new m is = goes_same m.1.0
   from_goes old (CopyingPage page) new m is = goes_same m.1.0
@@ -73,8 +75,10 @@ module _ {M I : Type 0} (state : M → MediumState I) (moves : I → Step → Bo
   to_goes : (old : Ends M (PlaceState M)) (c : PortCall) (new : Ends M (PlaceState M)) → moves_port state moves (moves_place state moves) old c new → IsShelved shelf count old.to →
       PlaceGoes state moves (calls_in count (puts_of shelf) c) old.to new.to
   to_goes old (Copying b bytes Copied) new m is = goes_block (λ k. at_block k b (put_of bytes false)) is.0 m.1.1
+  to_goes old (Copying b bytes (Busy holder)) new m is = absurd m.1
   to_goes old (Copying b bytes (Fault From)) new m is = goes_same m.1.1
   to_goes old (Copying b bytes (Fault To)) new m is = goes_block (λ k. at_block k b (put_of bytes true)) is.0 m.1.1
+  to_goes old (Taking answer) new m is = goes_same m.1.1
   to_goes old (Commanding From cmd bytes cpl new_bytes) new m is = goes_same m.1.1
   to_goes old (Commanding To cmd bytes cpl new_bytes) new m is = goes_none (ap (λ (p : PlaceState M). p.namespace) m.1.1) (ap (λ (p : PlaceState M). shape p.windows) m.1.1)
   to_goes old (CopyingPage page) new m is = goes_none (ap (λ (p : PlaceState M). p.namespace) m.1.2.rest) m.1.2.shape_is

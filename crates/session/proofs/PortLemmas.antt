@@ -12,7 +12,8 @@ use Rattle.nvm_blocks.proofs.NamespaceLaws.{called_same, same_count, was_marked,
 use Rattle.manager.specs.declared.side.CopyAnswer.{CopyAnswer}
 use Rattle.manager.specs.declared.side.CopyAnswer.TheVariants.{Copied, Fault}
 use Rattle.manager.specs.declared.side.Side.TheVariants.{From, To}
-use Rattle.manager.specs.Port.{IsPortCall, PortCall}
+use Rattle.manager.specs.Port.{IsPortCall, PortCall, PortState, port_call, work_of, works_port}
+use Rattle.manager.specs.Work.{IsWorkCall, WorkCall}
 use Rattle.manager.specs.Port.PortCall.{Copy as Copying}
 use Rattle.session.specs.Place.{PlaceState}
 use Rattle.session.specs.Port.{CallsPlace, DestCall, DestState, Ends, IsDestCall, dest_of_place, moves_place, moves_port, port_of, side_of_place}
@@ -123,6 +124,10 @@ copy_got names b bytes true p n d new there h put =
       left = put.left;
       moved = (refl, (place_called p n h, put.moved));
     }
+
+-- A call of the port as one of its work.
+pub worked : {I : Type 0} {moves : I → PortCall → I → Type 0} {c : WorkCall} {old new : PortState I} → IsPortCall moves old (port_call c) new → IsWorkCall (works_port moves) 1 (work_of old) c (work_of new)
+worked call = record { count = call.count; left = call.left; done = call }
 
 -- The port's calls, one after another.
 

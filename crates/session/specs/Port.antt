@@ -11,10 +11,10 @@ use Rattle.adm_values.specs.declared.command.AdminCpl.{AdminCpl}
 use Rattle.adm_values.specs.Command.{command_bytes}
 use Rattle.ctl_state.specs.Admin.{Answers}
 use Rattle.ctl_state.specs.Controller.{ControllerState}
-use Rattle.manager.specs.declared.side.CopyAnswer.TheVariants.{Copied, Fault}
+use Rattle.manager.specs.declared.side.CopyAnswer.TheVariants.{Copied, Busy, Fault}
 use Rattle.manager.specs.declared.side.Side.TheVariants.{From, To}
 use Rattle.manager.specs.Port.{PortCall, PortState, SideState, with_controller, with_media_of}
-use Rattle.manager.specs.Port.PortCall.{Copy as Copying, Admin as Commanding, CopyPage as CopyingPage, Mark as Marking}
+use Rattle.manager.specs.Port.PortCall.{Copy as Copying, Take as Taking, Admin as Commanding, CopyPage as CopyingPage, Mark as Marking}
 use Rattle.session.specs.Place.{PlaceState}
 
 -- The other side of a move, to which a place or the far end of a link may stand.
@@ -130,8 +130,10 @@ port_of state names from to = record {
 -- how a call takes both ends on
 abbrev pub moves_ends : {M I J : Type 0} → (M → MediumState I) → (I → Step → Bool → I → Type 0) → (J → DestCall → J → Type 0) → Ends M J → PortCall → Ends M J → Type 0
 moves_ends state moves dest old (Copying b bytes Copied) new = CallsPlace state moves (at_block old.from.namespace.shelf b (get_of bytes false) ∷ []) old.from new.from × dest old.to (Put b bytes false) new.to
+moves_ends state moves dest old (Copying b bytes (Busy holder)) new = ⊥
 moves_ends state moves dest old (Copying b bytes (Fault From)) new = CallsPlace state moves (at_block old.from.namespace.shelf b (get_of [] true) ∷ []) old.from new.from × (new.to ≡ old.to)
 moves_ends state moves dest old (Copying b bytes (Fault To)) new = CallsPlace state moves (at_block old.from.namespace.shelf b (get_of bytes false) ∷ []) old.from new.from × dest old.to (Put b bytes true) new.to
+moves_ends state moves dest old (Taking answer) new = Obeys old.from new.from × (new.to ≡ old.to)
 moves_ends state moves dest old (Commanding From cmd bytes cpl new_bytes) new = Obeys old.from new.from × (new.to ≡ old.to)
 moves_ends state moves dest old (Commanding To cmd bytes cpl new_bytes) new = (new.from ≡ old.from) × dest old.to (Admin cmd bytes cpl new_bytes) new.to
 moves_ends state moves dest old (CopyingPage page) new = (new.from ≡ old.from) × (bytes : List ℕ) × dest old.to (Page page bytes) new.to

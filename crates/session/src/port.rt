@@ -1,8 +1,8 @@
-ghost use Rattle.std.specs.Prelude.{◌≡◌};
+ghost use Rattle.std.specs.Prelude.{◌≡◌, Unit, refl};
 
 use crate::dest::Dest;
 use crate::place::Place;
-use manager::{AdminCmd, AdminCpl, CopyAnswer, Port, Side, WorkPort};
+use manager::{AdminCmd, AdminCpl, Change, CopyAnswer, Port, Side, WorkPort};
 use mig_base::Failed;
 use mig_medium::Medium;
 
@@ -24,13 +24,16 @@ impl<'a, M: Medium, D: Dest> Move<'a, M, D> {
 }
 
 impl<'a, M: Medium, D: Dest> WorkPort for Move<'a, M, D> {
+    ghost use Rattle.manager.specs.Port.{PortState, work_of, works_port};
     ghost use Rattle.session.specs.Port.{Ends, moves_port, port_of};
 
-    ghost Inside = { Ends M D.Inside };
+    ghost Inside = { PortState (Ends M D.Inside) };
 
-    ghost state = { λ p. port_of M.state (p.at.ghost_name, p.to.ghost_name) p.at.now (D.state p.to.now) };
+    ghost work = { λ p. work_of (port_of M.state (p.at.ghost_name, p.to.ghost_name) p.at.now (D.state p.to.now)) };
 
-    ghost moves = { moves_port M.state M.moves D.moves };
+    ghost works = { works_port (moves_port M.state M.moves D.moves) };
+
+    ghost seated = { λ p. Unit {0} };
 
     fn copy(&mut self, b: u32) -> CopyAnswer {
         let mut block = [0u8; 512];
@@ -42,9 +45,20 @@ impl<'a, M: Medium, D: Dest> WorkPort for Move<'a, M, D> {
             Err(Failed) => CopyAnswer::Fault { side: Side::To },
         }
     }
+
+    fn take(&mut self) -> Option<Change> {
+        self.at.take_change()
+    }
 }
 
 impl<'a, M: Medium, D: Dest> Port for Move<'a, M, D> {
+    ghost use Rattle.session.specs.Port.{Ends, moves_port, port_of};
+
+    ghost Meaning = { Ends M D.Inside };
+
+    ghost state = { λ p. port_of M.state (p.at.ghost_name, p.to.ghost_name) p.at.now (D.state p.to.now) };
+
+    ghost moves = { moves_port M.state M.moves D.moves };
     fn admin(&mut self, side: Side, cmd: &AdminCmd, bytes: &mut [u8]) -> AdminCpl {
         match side {
             Side::From => self.at.admin(cmd, bytes),
@@ -60,4 +74,10 @@ impl<'a, M: Medium, D: Dest> Port for Move<'a, M, D> {
         self.at.mark(n);
         self.to.mark(n);
     }
+
+    ghost same = { λ p. record { count = refl; left = refl } };
+
+    ghost calls = { λ p q cost c call. call.done };
+
+    ghost always = { λ p. tt };
 }

@@ -1,5 +1,7 @@
 // A place as a side of a move.
-ghost use Rattle.std.specs.Prelude.{◌≡◌, ◌<◌, [], ◌∷◌, length};
+ghost use Rattle.std.specs.Prelude.{◌≡◌, ◌<◌, [], ◌∷◌, IfSome, length};
+ghost use Rattle.ctl_state.specs.Controller.{TakesChange};
+ghost use Rattle.data_queue.specs.Change.{IsChange};
 ghost use Rattle.nvm_model.specs.Medium.{got};
 ghost use Rattle.nvm_model.specs.Memory.{page_at};
 ghost use Rattle.guest_ram.specs.Ram.{all_pages};
@@ -7,7 +9,7 @@ ghost use Rattle.nvm_blocks.specs.Namespace.{HasCalled, block_call, block_count}
 
 use super::Place;
 use crate::dest::Dest;
-use manager::{AdminCmd, AdminCpl};
+use manager::{AdminCmd, AdminCpl, Change};
 use mig_base::Failed;
 use mig_medium::Medium;
 
@@ -24,6 +26,16 @@ impl<M: Medium> Place<M> {
         ensures rest { self.new ≡ record self.old { namespace = self.new.namespace } }
     {
         self.namespace.copy_out(b, out)
+    }
+
+    /// Takes the oldest change of its controller's queue that isn't taken: `None` exactly where there is none, or the queue
+    /// isn't live.
+    pub(crate) fn take_change(&mut self) -> Option<Change>
+        ensures change { IfSome result IsChange }
+        ensures taken { TakesChange self.old.controller result self.new.controller }
+        ensures rest { self.new ≡ record self.old { controller = self.new.controller } }
+    {
+        self.controller.take_change()
     }
 
     /// The bytes of a window page, which is there. Numbers count over all lanes.

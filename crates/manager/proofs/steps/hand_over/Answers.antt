@@ -12,7 +12,7 @@ hand_part-requires-clause-left g c = omega (arith, c.requires.begins.image.is.fe
 pub parts-preserved : goal.parts-preserved
 parts-preserved g c =
     let fed = c.parts.invariant.fed in
-    let whole : part_length c.parts.whole (g.P.WorkPort.state c.parts.port).from.controller ≡ 64 = sym c.hand_part.ensures.count ∙ c.parts-test.true in
+    let whole : part_length c.parts.whole (g.P.Port.state c.parts.port).from.controller ≡ 64 = sym c.hand_part.ensures.count ∙ c.parts-test.true in
     record {
       fed = fed_next c.parts.whole fed c.hand_part.ensures.handed whole;
       there = omega (arith, size_kept fed, whole);

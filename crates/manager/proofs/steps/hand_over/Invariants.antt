@@ -4,9 +4,9 @@ use Rattle.manager.proofs.steps.hand_over.Given as goal
 
 abbrev pub invariant-parts : goal.invariant-parts
 invariant-parts g l = record {
-  fed : HasFed g.P.WorkPort.moves l.whole (g.P.WorkPort.state l.fn.port) (g.P.WorkPort.state l.port);
-  there : 64 * l.whole < size_of (g.P.WorkPort.state l.fn.port).from.controller;
+  fed : HasFed g.P.Port.moves l.whole (g.P.Port.state l.fn.port) (g.P.Port.state l.port);
+  there : 64 * l.whole < size_of (g.P.Port.state l.fn.port).from.controller;
 }
 
 abbrev pub decreases-parts : goal.decreases-parts
-decreases-parts g l = size_of (g.P.WorkPort.state l.fn.port).from.controller - 64 * l.whole
+decreases-parts g l = size_of (g.P.Port.state l.fn.port).from.controller - 64 * l.whole

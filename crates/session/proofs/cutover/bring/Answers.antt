@@ -12,7 +12,7 @@ give_up-requires-clause-fits g c =
 
 pub returns-in-Err : goal.returns-in-Err
 returns-in-Err g c =
-    let p = g.P.WorkPort in
+    let p = g.P.Port in
     let mid = p.state c.cut_over.new.port in
     let new = p.state c.give_up.new.port in
     let cut = c.in-Err.ensures in
