@@ -1,5 +1,5 @@
 //! A move of a manager over a port of its own, with two real controllers.
-ghost use Rattle.std.specs.Prelude.{◌≡◌, All, [], IfOk, Some, length, true, Unit, refl};
+ghost use Rattle.std.specs.Prelude.{◌≡◌, All, [], IfOk, Some, length, true, refl};
 ghost use Rattle.adm_values.specs.Command.{IsCommand, command_bytes};
 ghost use Rattle.ctl_state.specs.Admin.{Answers, FitsBuffer};
 ghost use Rattle.manager.specs.Move.{Fits, MayCutOver, with_all};

@@ -1,4 +1,4 @@
-ghost use Rattle.std.specs.Prelude.{◌≡◌, Unit, refl};
+ghost use Rattle.std.specs.Prelude.{◌≡◌, refl};
 
 use crate::dest::Dest;
 use crate::place::Place;
