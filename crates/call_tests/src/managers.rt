@@ -94,11 +94,7 @@ impl Port for FakePort {
         self.left -= 1;
     }
 
-    ghost same = { λ p. record { count = refl; left = refl } };
-
-    ghost calls = { λ p q cost c call. call.done };
-
-    ghost always = { λ p. tt };
+    ghost both = { record { told = λ p. p; count = λ p. refl; left = λ p. refl; sides = λ p. refl; calls = λ old c new call. call; always = λ p. tt } };
 }
 
 fn send(cmd: &AdminCmd, side: &mut FakeSide, bytes: &mut [u8]) -> AdminCpl

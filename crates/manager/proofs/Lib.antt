@@ -3,6 +3,7 @@ pub mod CallLaws
 pub mod CopyLemmas
 pub mod StateLemmas
 pub mod StepLemmas
+pub mod WorkLemmas
 pub mod MoveLemmas
 pub mod OwedLemmas
 pub mod PortLaws

@@ -142,10 +142,15 @@ abbrev pub port_call : WorkCall → PortCall
 port_call (CopyWork b bytes answer) = Copy b bytes answer
 port_call (TakeWork answer) = Take answer
 
--- work has the same blocks and the same calls left
-pub record SameWork {I J : Type 0} (w : WorkState J) (p : PortState I) : Type 0 where
-  pub count : w.count ≡ p.count
-  pub left : w.left ≡ p.left
+-- Each call of a port's work is one of the port, by what the work's meaning tells of both sides; it has the same blocks and the
+-- same calls left.
+pub record WorksAtBoth {S I J : Type 0} (work : S → WorkState J) (works : J → WorkCall → J → Type 0) (seated : J → Type 0) (state : S → PortState I) (moves : I → PortCall → I → Type 0) : Type 0 where
+  pub told : J → PortState I
+  pub count : (p : S) → (work p).count ≡ (state p).count
+  pub left : (p : S) → (work p).left ≡ (state p).left
+  pub sides : (p : S) → told (work p).inside ≡ state p
+  pub calls : (old : J) (c : WorkCall) (new : J) → works old c new → IsPortCall moves (told old) (port_call c) (told new)
+  pub always : (inside : J) → seated inside
 
 -- A port's work can mean all that is seen of the port, and then each call of it is one of the port.
 abbrev pub work_of : {I : Type 0} → PortState I → WorkState (PortState I)

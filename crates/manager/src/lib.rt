@@ -11,6 +11,7 @@ mod owed;
 mod port;
 mod side;
 mod steps;
+mod work;
 
 pub use adm_values::{AdminCmd, AdminCpl, What};
 pub use data_queue::Change;

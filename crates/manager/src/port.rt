@@ -1,6 +1,6 @@
 ghost use Rattle.std.specs.Prelude.{◌≤◌, ◌<◌, IfSome, List, ℕ};
 ghost use Rattle.data_queue.specs.Change.{IsChange};
-ghost use Rattle.manager.specs.Port.{HasPage, IsPortCall, MayCommand, PortCall, PortState, SameWork, port_call, side_of};
+ghost use Rattle.manager.specs.Port.{HasPage, IsPortCall, MayCommand, PortCall, PortState, WorksAtBoth, side_of};
 ghost use Rattle.manager.specs.Port.PortCall.{Admin, CopyPage, Mark};
 ghost use Rattle.manager.specs.Work.{IsWorkCall, WorkCall, WorkState};
 ghost use Rattle.manager.specs.Work.WorkCall.{Copy, Take};
@@ -71,13 +71,6 @@ pub trait Port: WorkPort {
         requires { 1 ≤ (state self.old).left }
         ensures { IsPortCall moves (state self.old) (Mark n) (state self.new) };
 
-    /// Work over the port is seen at both sides: it has the same blocks and the same calls,
-    ghost same: { (p : Self) → SameWork (Self.work p) (state p) };
-
-    /// each call of it is one of the port,
-    ghost calls: { (p q : Self) (cost : ℕ) (c : WorkCall) → IsWorkCall Self.works cost (Self.work p) c (Self.work q)
-        → IsPortCall moves (state p) (port_call c) (state q) };
-
-    /// and it can be called at any time.
-    ghost always: { (p : Self) → Self.seated (Self.work p).inside };
+    /// Work over the port is seen at both sides, and can be done at any time.
+    ghost both: { WorksAtBoth Self.work Self.works Self.seated state moves };
 }

@@ -75,9 +75,5 @@ impl<'a, M: Medium, D: Dest> Port for Move<'a, M, D> {
         self.to.mark(n);
     }
 
-    ghost same = { λ p. record { count = refl; left = refl } };
-
-    ghost calls = { λ p q cost c call. call.done };
-
-    ghost always = { λ p. tt };
+    ghost both = { record { told = λ p. p; count = λ p. refl; left = λ p. refl; sides = λ p. refl; calls = λ old c new call. call; always = λ p. tt } };
 }

@@ -1,0 +1,114 @@
+// The work of a turn: blocks are copied, and changes are taken.
+ghost use Rattle.std.specs.Prelude.{◌≡◌, ◌≤◌, ◌∷◌, [], IfOk, None, drop, false, length, replicate, take, true, vec_len};
+ghost use Rattle.manager.specs.Owed.{places_of};
+ghost use Rattle.manager.specs.Work.{AtWork, DoesAll, DoesOne, HasWork, Takes, Tried, at_work};
+
+use crate::owed::Owed;
+use crate::port::WorkPort;
+use crate::side::{CopyAnswer, Side};
+use mig_base::OutOfMemory;
+use std::alloc::Global;
+use std::marker::Model;
+
+/// The work of a turn: what is owed, and blocks of it that are to be copied in this turn, each once.
+#[derive(Drop)]
+pub(crate) struct Work {
+    slice: u32,
+    cells: u32,
+    owed: Owed,
+    due: Vec<u32>,
+    // How many of these were tried.
+    tried: usize,
+    busy: Vec<u32>,
+    failed: Option<Side>,
+}
+
+impl Model for Work {
+    ghost use Rattle.std.specs.Prelude.{◌<◌, ◌≤◌, All, drop, length, vec_capacity, vec_len};
+    ghost use Rattle.manager.specs.Work.{TurnWork};
+
+    ghost Value = { TurnWork };
+
+    ghost view = { λ w. record { slice = w.slice; cells = w.cells; owed = w.owed; due = drop w.tried w.due.items; busy = w.busy.items; failed = w.failed } };
+
+    // Both lists have room for a slice.
+    ghost invariant = { λ w. (w.tried ≤ length w.due.items) × (vec_len w.due ≤ w.slice) × (w.slice ≤ vec_capacity w.due) × (w.slice ≤ vec_capacity w.busy) × (vec_len w.busy ≤ w.tried)
+        × All (λ b. b < length w.owed) w.due.items × All (λ b. b < length w.owed) w.busy.items };
+}
+
+impl Work {
+    /// Work over so many blocks, of which none is owed and none is to be copied.
+    pub(crate) fn make(
+        alloc: Global,
+        blocks: u32,
+        slice: u32,
+        cells: u32,
+    ) -> Result<Work, OutOfMemory>
+        ensures { IfOk result (λ w. w ≡ record { slice = slice; cells = cells; owed = replicate blocks false; due = []; busy = []; failed = None }) }
+    {
+        Ok(Work {
+            slice,
+            cells,
+            owed: Owed::make(alloc, blocks)?,
+            due: Vec::with_capacity(alloc, slice as usize)?,
+            tried: 0,
+            busy: Vec::with_capacity(alloc, slice as usize)?,
+            failed: None,
+        })
+    }
+
+    /// Whether a copy of this turn wasn't tried yet and none failed.
+    pub(crate) fn left(&self) -> bool
+        ensures { HasWork result self.now }
+    {
+        self.failed.is_none() && self.tried < self.due.len()
+    }
+
+    /// Copies the next block, and takes changes until there is none, at most as many as the queue has cells.
+    pub(crate) fn one<W: WorkPort>(&mut self, port: &mut W)
+        requires work { HasWork true self.old }
+        requires left { 1 ≤ (W.work port.old).left }
+        requires fits { (length self.old.owed ≡ (W.work port.old).count) × (length self.old.owed ≤ 131072) }
+        requires seated { W.seated (W.work port.old).inside }
+        ensures does { (t : Tried) × DoesOne W.works (at_work self.old (W.work port.old)) t (at_work self.new (W.work port.new)) }
+        ensures seated { W.seated (W.work port.new).inside }
+    {
+        let block = self.due[self.tried];
+        self.tried += 1;
+        match port.copy(block) {
+            CopyAnswer::Copied => {}
+            CopyAnswer::Busy { .. } => self.busy.push_reserved(block),
+            CopyAnswer::Fault { side } => self.failed = Some(side),
+        }
+        take_some(self.cells, &mut self.owed, port);
+    }
+
+    /// Copies all that are left to try, each with its takes, unless one fails.
+    pub(crate) fn all<W: WorkPort>(&mut self, port: &mut W)
+        requires left { length self.old.due ≤ (W.work port.old).left }
+        requires fits { (length self.old.owed ≡ (W.work port.old).count) × (length self.old.owed ≤ 131072) }
+        requires seated { W.seated (W.work port.old).inside }
+        ensures does { DoesAll W.works (at_work self.old (W.work port.old)) (at_work self.new (W.work port.new)) }
+        ensures seated { W.seated (W.work port.new).inside }
+    {
+        'copies: while self.left() {
+            self.one(port);
+        }
+    }
+}
+
+/// Takes changes until there is none, at most so many.
+fn take_some<W: WorkPort>(most: u32, owed: &mut Owed, port: &mut W)
+    requires size { length owed.old ≤ 131072 }
+    requires seated { W.seated (W.work port.old).inside }
+    ensures takes { Takes W.works most owed.old (W.work port.old) owed.new (W.work port.new) }
+    ensures long { length owed.new ≡ length owed.old }
+    ensures seated { W.seated (W.work port.new).inside }
+{
+    for _ in 0..most {
+        match port.take() {
+            Some(change) => owed.owe_span(change),
+            None => return,
+        }
+    }
+}
