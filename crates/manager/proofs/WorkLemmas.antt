@@ -1,12 +1,13 @@
 use Rattle.std.proofs.Common.{◌≡◌, ℕ, ◌+◌, ◌≤◌, Bool, true, false, cond, List, [], ◌∷◌, ◌++◌, Option, Some, None, length, map, refl, sym, ap, subst, ◌∙◌, append_assoc, append-nil, arith}
 use Rattle.std.proofs.lemmas.List.{length-append, map-append}
-use Rattle.nvm_model.proofs.ChainLemmas.{chain_more, chain_one}
+use Rattle.nvm_model.proofs.ChainLemmas.{chain_keeps, chain_more, chain_one}
+use Rattle.nvm_model.specs.Chain.{Chain}
 use Rattle.data_queue.specs.declared.change.Change.{Change}
 use Rattle.manager.specs.declared.side.CopyAnswer.{CopyAnswer}
 use Rattle.manager.specs.declared.side.CopyAnswer.TheVariants.{Copied, Busy, Fault}
 use Rattle.manager.proofs.OwedLemmas.{length-owe}
 use Rattle.manager.specs.Owed.{owe_from}
-use Rattle.manager.specs.Port.{IsPortCall, PortCall, PortState, WorksAtBoth, port_call}
+use Rattle.manager.specs.Port.{HasCause, IsPortCall, PortCall, PortState, WorksAtBoth, port_call}
 use Rattle.manager.specs.Work.{AtWork, Called, DoesOne, IsWorkCall, Takes, Took, Tried, TurnWork, WorkCall, WorkState, after_copy, at_work, copies_in, owe_changes, take_calls, tried_calls}
 use Rattle.manager.specs.Work.WorkCall.{Copy, Take}
 
@@ -114,3 +115,55 @@ lessens {t = t} old new d = record {
   count = d.called.count;
   left = omega (arith, d.called.left, takes_free t.changes t.none);
 }
+
+-- Between two whole sides no shelf is another's.
+
+busy_stays : {I : Type 0} (answer : CopyAnswer) (b : ℕ) (w : TurnWork) (old new : PortState I) → HasCause answer old new → (after_copy answer b w).busy ≡ w.busy
+busy_stays Copied b w old new cause = refl
+busy_stays (Busy holder) b w old new cause = absurd cause
+busy_stays (Fault side) b w old new cause = refl
+
+module _ {S I J : Type 0} {work : S → WorkState J} {works : J → WorkCall → J → Type 0} {seated : J → Type 0} {state : S → PortState I} {moves : I → PortCall → I → Type 0} (both : WorksAtBoth work works seated state moves) where
+  none_one : (old : AtWork J) (t : Tried) (new : AtWork J) → DoesOne works old t new → old.work.busy ≡ [] → new.work.busy ≡ []
+  none_one old t new d none =
+      let first = d.called.run in
+      let call = both.calls old.port.inside (Copy t.block t.bytes t.answer) first.0 first.1 in
+      ap (λ (w : TurnWork). w.busy) d.after ∙ busy_stays t.answer t.block (record old.work { due = d.rest }) (both.told old.port.inside) (both.told first.0) call.does.cause ∙ none
+
+  pub none_busy : (old : AtWork J) (tried : List Tried) (new : AtWork J) → Chain (DoesOne works) old tried new → old.work.busy ≡ [] → new.work.busy ≡ []
+  none_busy = chain_keeps (DoesOne works) (λ (a : AtWork J). a.work.busy ≡ []) none_one
+
+-- What work keeps: how many blocks and changes are taken at most, and how many blocks there are.
+
+pub record KeepsRoom (old new : TurnWork) : Type 0 where
+  pub slice : new.slice ≡ old.slice
+  pub cells : new.cells ≡ old.cells
+  pub count : length new.owed ≡ length old.owed
+
+room_stays : (answer : CopyAnswer) (b : ℕ) (w : TurnWork) (owed : List Bool) → KeepsRoom (record w { owed = owed }) (record (after_copy answer b w) { owed = owed })
+room_stays Copied b w owed = record { slice = refl; cells = refl; count = refl }
+room_stays (Busy holder) b w owed = record { slice = refl; cells = refl; count = refl }
+room_stays (Fault side) b w owed = record { slice = refl; cells = refl; count = refl }
+
+pub one_keeps : {I : Type 0} {works : I → WorkCall → I → Type 0} (old : AtWork I) (t : Tried) (new : AtWork I) → DoesOne works old t new → KeepsRoom old.work new.work
+one_keeps old t new d =
+    let owed = owe_changes t.changes old.work.owed in
+    let stays = room_stays t.answer t.block (record old.work { due = d.rest }) owed in
+    record {
+      slice = ap (λ (w : TurnWork). w.slice) d.after ∙ stays.slice;
+      cells = ap (λ (w : TurnWork). w.cells) d.after ∙ stays.cells;
+      count = ap (λ (w : TurnWork). length w.owed) d.after ∙ length-owe_changes t.changes old.work.owed;
+    }
+
+pub all_keep : {I : Type 0} (works : I → WorkCall → I → Type 0) (start : TurnWork) (old : AtWork I) (tried : List Tried) (new : AtWork I) → Chain (DoesOne works) old tried new → KeepsRoom start old.work → KeepsRoom start new.work
+all_keep {I} works start = chain_keeps (DoesOne works) (λ (a : AtWork I). KeepsRoom start a.work) (λ x t y d k. let one = one_keeps x t y d in record { slice = one.slice ∙ k.slice; cells = one.cells ∙ k.cells; count = one.count ∙ k.count })
+
+pub keeps_itself : (w : TurnWork) → KeepsRoom w w
+keeps_itself w = record { slice = refl; cells = refl; count = refl }
+
+-- work as its manager shows it
+pub shown_so : (R : TurnWork → TurnWork → Type 0) (v w : TurnWork) (slice cells : ℕ) → v.slice ≡ slice → v.cells ≡ cells → w.slice ≡ slice → w.cells ≡ cells → R v w → R (record v { slice = slice; cells = cells }) (record w { slice = slice; cells = cells })
+shown_so R v w slice cells p q r s is =
+    let old : v ≡ record v { slice = slice; cells = cells } = λ k. record v { slice = p k; cells = q k } in
+    let new : w ≡ record w { slice = slice; cells = cells } = λ k. record w { slice = r k; cells = s k } in
+    subst (λ (x : TurnWork). R (record v { slice = slice; cells = cells }) x) new (subst (λ (x : TurnWork). R x w) old is)

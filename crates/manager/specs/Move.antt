@@ -1,4 +1,4 @@
-use Rattle.std.specs.Prelude.{◌≡◌, ◌≢◌, ℕ, ◌+◌, ◌*◌, ◌^◌, ◌≤◌, All, Bool, List, [], ◌∷◌, ◌++◌, Result, Ok, Err, length, map, replicate}
+use Rattle.std.specs.Prelude.{◌≡◌, ◌≢◌, ℕ, ◌+◌, ◌*◌, ◌^◌, ◌≤◌, All, Bool, List, [], ◌∷◌, ◌++◌, Option, None, Result, Ok, Err, length, map, replicate}
 use Rattle.mig_base.specs.Count.{RisesBy}
 use Rattle.ctl_state.specs.declared.image.Image.{Image}
 use Rattle.ctl_state.specs.declared.image.PairState.{PairState as PairImage}
@@ -12,18 +12,34 @@ use Rattle.manager.specs.declared.manager.MovePhase.{MovePhase}
 use Rattle.manager.specs.declared.manager.MovePhase.TheVariants.{New, Begun, Stopped, Moved, GivenUp}
 use Rattle.manager.specs.declared.manager.MediumFault.{MediumFault}
 use Rattle.manager.specs.declared.manager.Pause.{Pause}
+use Rattle.manager.specs.declared.side.Side.{Side}
 use Rattle.manager.specs.declared.side.Side.TheVariants.{From}
 use Rattle.manager.specs.Asks.{Ask, Asked, cut_over_asks, resume_asks, stopped_asks}
 use Rattle.manager.specs.Asks.Ask.{Mark}
 use Rattle.manager.specs.Owed.{DifferIn, TellDifference, TellSame, places_of}
+use Rattle.manager.specs.Work.{TurnWork}
 use Rattle.manager.specs.Port.{PortCall, PortState, SideState, side_of, with_controller, with_media_of}
 
--- A manager of a move: what was asked for, where the move is, and of each block and each page whether it is owed.
+-- A manager of a move: what was asked for, where the move is, and of each block and each page whether it is owed, but for the
+-- blocks that are still to be copied in this turn; these, those whose shelf was busy, and the side whose medium failed; and how
+-- many rounds were done.
 pub record ManagerState : Type 0 where
   pub set : MoveSet
   pub phase : MovePhase
   pub blocks : List Bool
   pub pages : List Bool
+  pub due : List ℕ
+  pub busy : List ℕ
+  pub failed : Option Side
+  pub rounds : ℕ
+
+-- its work in a turn
+abbrev pub work_in : ManagerState → TurnWork
+work_in m = record { slice = m.set.slice; cells = m.set.cells; owed = m.blocks; due = m.due; busy = m.busy; failed = m.failed }
+
+-- and the manager after such work
+abbrev pub with_work : TurnWork → ManagerState → ManagerState
+with_work w m = record m { blocks = w.owed; due = w.due; busy = w.busy; failed = w.failed }
 
 pub record IsMoveSet (set : MoveSet) : Type 0 where
   pub blocks : (1 ≤ set.blocks) × (set.blocks ≤ 131072)
@@ -36,7 +52,7 @@ pub record IsMoveSet (set : MoveSet) : Type 0 where
 
 -- all blocks and pages are owed, or none
 abbrev pub with_all : Bool → MovePhase → MoveSet → ManagerState
-with_all owed phase set = record { set = set; phase = phase; blocks = replicate set.blocks owed; pages = replicate set.ram_pages owed }
+with_all owed phase set = record { set = set; phase = phase; blocks = replicate set.blocks owed; pages = replicate set.ram_pages owed; due = []; busy = []; failed = None; rounds = 0 }
 
 -- whatever two sides of that size hold, they differ in what is owed alone
 pub record Covers (m : ManagerState) : Type 0 where

@@ -1,10 +1,10 @@
-use Rattle.std.specs.Prelude.{◌≡◌, ℕ, ◌+◌, ◌<◌, ◌≤◌, Bool, true, false, cond, List, [], ◌∷◌, ◌++◌, Option, Some, None, length, map}
+use Rattle.std.specs.Prelude.{◌≡◌, ℕ, ◌+◌, ◌<◌, ◌≤◌, Bool, true, false, cond, List, [], ◌∷◌, ◌++◌, Option, Some, None, drop, length, map, take}
 use Rattle.data_queue.specs.declared.change.Change.{Change}
 use Rattle.nvm_model.specs.Chain.{Chain}
 use Rattle.manager.specs.declared.side.CopyAnswer.{CopyAnswer}
 use Rattle.manager.specs.declared.side.CopyAnswer.TheVariants.{Copied, Busy, Fault}
 use Rattle.manager.specs.declared.side.Side.{Side}
-use Rattle.manager.specs.Owed.{owe_from}
+use Rattle.manager.specs.Owed.{owe_from, places_of}
 
 -- A port as far as blocks are copied and changes taken.
 
@@ -122,3 +122,14 @@ pub record DoesAll {I : Type 0} (works : I → WorkCall → I → Type 0) (old n
   pub tried : List Tried
   pub run : Chain (DoesOne works) old tried new
   pub end : HasWork false new.work
+
+-- those whose shelf was busy are to be copied again
+abbrev pub again : TurnWork → TurnWork
+again w = record w { due = w.busy; busy = [] }
+
+-- The lowest blocks that are owed are to be copied, as many as a slice, and are no more among the others.
+pub record Draws (old new : TurnWork) : Type 0 where
+  pub due : new.due ≡ take old.slice (places_of old.owed)
+  pub others : places_of new.owed ≡ drop old.slice (places_of old.owed)
+  pub count : length new.owed ≡ length old.owed
+  pub rest : new ≡ record old { owed = new.owed; due = new.due; busy = [] }

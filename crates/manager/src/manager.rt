@@ -1,12 +1,14 @@
-ghost use Rattle.std.specs.Prelude.{◌≡◌, ◌^◌, ◌<◌, ◌↔◌, IfOk, IsTrue, false, true};
+ghost use Rattle.std.specs.Prelude.{◌≡◌, ◌^◌, ◌<◌, ◌≤◌, ◌↔◌, [], IfOk, IsTrue, false, length, true};
 ghost use Rattle.manager.specs.Asks.{Asked};
-ghost use Rattle.manager.specs.Move.{Covers, Fits, HasCut, IsCutOver, IsDue, IsGivenUp, IsMoveSet, IsOn, IsSource, MayCutOver, SidesAfter, Spends, give_up_asks, with_all};
+ghost use Rattle.manager.specs.Move.{Covers, Fits, HasCut, IsCutOver, IsDue, IsGivenUp, IsMoveSet, IsOn, IsSource, MayCutOver, SidesAfter, Spends, give_up_asks, with_all, with_work, work_in};
+ghost use Rattle.manager.specs.Work.{DoesAll, DoesOne, HasWork, Tried, again, at_work};
 ghost use Rattle.manager.specs.declared.manager.MovePhase.TheVariants.{New, Begun, GivenUp};
 
 use crate::owed::Owed;
-use crate::port::Port;
+use crate::port::{Port, WorkPort};
 use crate::side::Side;
-use crate::steps::{copy_blocks, copy_pages, hand_over, resume, suspend};
+use crate::steps::{copy_pages, hand_over, resume, suspend};
+use crate::work::Work;
 use mig_base::OutOfMemory;
 use std::alloc::Global;
 use std::marker::Model;
@@ -62,8 +64,9 @@ pub struct MediumFault {
 pub struct Manager {
     set: MoveSet,
     phase: MovePhase,
-    blocks: Owed,
+    work: Work,
     pages: Owed,
+    rounds: u32,
 }
 
 impl Model for Manager {
@@ -72,9 +75,9 @@ impl Model for Manager {
 
     ghost Value = { ManagerState };
 
-    ghost view = { λ m. record { set = m.set; phase = m.phase; blocks = m.blocks; pages = m.pages } };
+    ghost view = { λ m. record { set = m.set; phase = m.phase; blocks = m.work.owed; pages = m.pages; due = m.work.due; busy = m.work.busy; failed = m.work.failed; rounds = m.rounds } };
 
-    ghost invariant = { λ m. IsMoveSet m.set × (length m.blocks ≡ m.set.blocks) × (length m.pages ≡ m.set.ram_pages) };
+    ghost invariant = { λ m. IsMoveSet m.set × (length m.work.owed ≡ m.set.blocks) × (length m.pages ≡ m.set.ram_pages) × (m.work.slice ≡ m.set.slice) × (m.work.cells ≡ m.set.cells) };
 }
 
 impl Manager {
@@ -90,8 +93,9 @@ impl Manager {
         Ok(Manager {
             set,
             phase: MovePhase::New,
-            blocks: Owed::make(alloc, set.blocks)?,
+            work: Work::make(alloc, set.blocks, set.slice, set.cells)?,
             pages: Owed::make(alloc, set.ram_pages)?,
+            rounds: 0,
         })
     }
 
@@ -103,15 +107,55 @@ impl Manager {
         ensures due { IsTrue result ↔ IsDue self.new }
     {
         self.phase = MovePhase::Begun;
-        self.blocks.owe_all();
+        self.work.owe_all();
         self.pages.owe_all();
+        self.rounds = 0;
         self.is_due()
     }
 
     fn is_due(&self) -> bool
         ensures { IsTrue result ↔ IsDue self.now }
     {
-        self.blocks.count() <= self.set.small && self.pages.count() <= self.set.pages
+        self.work.count() <= self.set.small && self.pages.count() <= self.set.pages
+    }
+
+    /// Whether a copy of this turn wasn't tried yet and none failed.
+    pub fn work_left(&self) -> bool
+        ensures { HasWork result (work_in self.now) }
+    {
+        self.work.left()
+    }
+
+    /// Copies the next block of this turn, and takes changes until there is none, at most as many as the queue has cells:
+    /// their blocks are owed then. It needs a port of this move's number of blocks, and takes one at most of its calls.
+    pub fn work_one<W: WorkPort>(&mut self, port: &mut W)
+        requires work { HasWork true (work_in self.old) }
+        requires port { (1 ≤ (W.work port.old).left) × (self.old.set.blocks ≡ (W.work port.old).count) × W.seated (W.work port.old).inside }
+        ensures does { (t : Tried) × DoesOne W.works (at_work (work_in self.old) (W.work port.old)) t (at_work (work_in self.new) (W.work port.new)) }
+        ensures rest { (self.new ≡ with_work (work_in self.new) self.old) × W.seated (W.work port.new).inside }
+    {
+        self.work.one(port);
+    }
+
+    /// Copies all blocks of this turn that weren't tried yet, each with its takes, until one fails. It takes a call of the port
+    /// for each at most.
+    pub fn turn_work<W: WorkPort>(&mut self, port: &mut W)
+        requires { (length self.old.due ≤ (W.work port.old).left) × (self.old.set.blocks ≡ (W.work port.old).count) × W.seated (W.work port.old).inside }
+        ensures does { DoesAll W.works (at_work (work_in self.old) (W.work port.old)) (at_work (work_in self.new) (W.work port.new)) }
+        ensures rest { (self.new ≡ with_work (work_in self.new) self.old) × W.seated (W.work port.new).inside }
+    {
+        self.work.all(port);
+    }
+
+    /// Copies the blocks of this turn whose shelf was busy, each with its takes, until one fails. It takes a call of the port for
+    /// each at most.
+    pub fn turn_rest<P: Port>(&mut self, port: &mut P)
+        requires { (length self.old.busy ≤ (P.work port.old).left) × (self.old.set.blocks ≡ (P.work port.old).count) }
+        ensures does { DoesAll P.works (at_work (again (work_in self.old)) (P.work port.old)) (at_work (work_in self.new) (P.work port.new)) }
+        ensures none { self.new.busy ≡ [] }
+        ensures rest { self.new ≡ with_work (work_in self.new) self.old }
+    {
+        self.work.rest(port);
     }
 
     /// Suspends the source, copies what is owed, hands the state over and resumes the destination, after turn `t`. Answers
@@ -135,13 +179,13 @@ impl Manager {
     {
         self.phase = MovePhase::Stopped;
         suspend(t, port);
-        copy_blocks(&self.blocks, port)?;
+        self.work.copy_owed(port)?;
         copy_pages(&self.pages, port);
         hand_over(port);
         resume(Side::To, t, port);
         self.phase = MovePhase::Moved;
         Ok(Pause {
-            blocks: self.blocks.count(),
+            blocks: self.work.count(),
             pages: self.pages.count(),
         })
     }

@@ -1,14 +1,18 @@
 // The work of a turn: blocks are copied, and changes are taken.
-ghost use Rattle.std.specs.Prelude.{◌≡◌, ◌≤◌, ◌∷◌, [], IfOk, None, drop, false, length, replicate, take, true, vec_len};
+ghost use Rattle.std.specs.Prelude.{◌≡◌, ◌<◌, ◌≤◌, ◌∷◌, [], All, IfOk, None, drop, false, length, replicate, take, true, vec_capacity, vec_len};
 ghost use Rattle.manager.specs.Owed.{places_of};
-ghost use Rattle.manager.specs.Work.{AtWork, DoesAll, DoesOne, HasWork, Takes, Tried, at_work};
+ghost use Rattle.manager.specs.Parts.{DoesCopies};
+ghost use Rattle.manager.specs.Work.{DoesAll, DoesOne, Draws, HasWork, Takes, Tried, again, at_work};
 
+use crate::manager::MediumFault;
 use crate::owed::Owed;
-use crate::port::WorkPort;
+use crate::port::{Port, WorkPort};
 use crate::side::{CopyAnswer, Side};
+use crate::steps::copy_blocks;
 use mig_base::OutOfMemory;
 use std::alloc::Global;
 use std::marker::Model;
+use std::mem;
 
 /// The work of a turn: what is owed, and blocks of it that are to be copied in this turn, each once.
 #[derive(Drop)]
@@ -57,6 +61,51 @@ impl Work {
         })
     }
 
+    /// All is owed, and none of it is to be copied.
+    pub(crate) fn owe_all(&mut self)
+        requires { length self.old.owed ≤ 131072 }
+        ensures { self.new ≡ record self.old { owed = replicate (length self.old.owed) true; due = []; busy = []; failed = None } }
+    {
+        self.owed.owe_all();
+        self.due.clear();
+        self.tried = 0;
+        self.busy.clear();
+        self.failed = None;
+    }
+
+    /// How many blocks are owed.
+    pub(crate) fn count(&self) -> u32
+        ensures { result ≡ length (places_of self.now.owed) }
+    {
+        self.owed.count()
+    }
+
+    /// Copies all that is owed, ascending, until a copy fails.
+    pub(crate) fn copy_owed<P: Port>(&self, port: &mut P) -> Result<(), MediumFault>
+        requires size { (length self.now.owed ≡ (P.state port.old).count) × (length self.now.owed ≤ 131072) }
+        requires left { length self.now.owed ≤ (P.state port.old).left }
+        ensures { DoesCopies P.moves (places_of self.now.owed) result (P.state port.old) (P.state port.new) }
+    {
+        copy_blocks(&self.owed, port)
+    }
+
+    /// The lowest blocks that are owed are to be copied, as many as a slice.
+    pub(crate) fn draw(&mut self)
+        ensures { Draws self.old self.new }
+    {
+        self.due.clear();
+        self.tried = 0;
+        self.busy.clear();
+        draw_lowest(self.slice, &mut self.owed, &mut self.due);
+    }
+
+    /// The side whose medium failed, if a copy did.
+    pub(crate) fn failed(&self) -> Option<Side>
+        ensures { result ≡ self.now.failed }
+    {
+        self.failed
+    }
+
     /// Whether a copy of this turn wasn't tried yet and none failed.
     pub(crate) fn left(&self) -> bool
         ensures { HasWork result self.now }
@@ -93,6 +142,41 @@ impl Work {
     {
         'copies: while self.left() {
             self.one(port);
+        }
+    }
+
+    /// Copies those whose shelf was busy, each with its takes, unless one fails.
+    pub(crate) fn rest<P: Port>(&mut self, port: &mut P)
+        requires left { length self.old.busy ≤ (P.work port.old).left }
+        requires fits { (length self.old.owed ≡ (P.work port.old).count) × (length self.old.owed ≤ 131072) }
+        ensures does { DoesAll P.works (at_work (again self.old) (P.work port.old)) (at_work self.new (P.work port.new)) }
+        ensures none { self.new.busy ≡ [] }
+    {
+        self.again();
+        self.all(port);
+    }
+
+    fn again(&mut self)
+        ensures { self.new ≡ again self.old }
+    {
+        mem::swap(&mut self.due, &mut self.busy);
+        self.tried = 0;
+        self.busy.clear();
+    }
+}
+
+/// Takes the lowest places that are owed, so many at most, into an empty list with room for them.
+fn draw_lowest(most: u32, owed: &mut Owed, due: &mut Vec<u32>)
+    requires room { (due.old.items ≡ []) × (most ≤ vec_capacity due.old) }
+    ensures drawn { (due.new.items ≡ take most (places_of owed.old)) × (places_of owed.new ≡ drop most (places_of owed.old)) }
+    ensures long { length owed.new ≡ length owed.old }
+    ensures there { All (λ b. b < length owed.new) due.new.items }
+    ensures room { (vec_len due.new ≤ most) × (vec_capacity due.old ≤ vec_capacity due.new) }
+{
+    for _ in 0..most {
+        match owed.take_lowest() {
+            Some(place) => due.push_reserved(place),
+            None => return,
         }
     }
 }
