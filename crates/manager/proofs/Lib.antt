@@ -7,3 +7,4 @@ pub mod WorkLemmas
 pub mod MoveLemmas
 pub mod OwedLemmas
 pub mod PortLaws
+pub mod RoundLemmas

@@ -200,3 +200,8 @@ found_lowest count counts owed c more g at there none some from within free is =
       counted = subst (λ (k : ℕ). IsCounted (count - 1) (slice_set counts k (slice_index_or counts g 0 - 1)) (slice_set owed at false)) here.1
           (counted_taken count counts owed c at (count - 1) (slice_index_or counts g 0 - 1) here.0 (is here.0) (omega (arith, more)) (omega (arith, one, ap (λ (k : ℕ). slice_index_or counts k 0) here.1)));
     }
+
+pub none_left : (k : ℕ) (owed : List Bool) → places_from k owed ≡ [] → owed ≡ replicate (length owed) false
+none_left k [] none = refl
+none_left k (true ∷ owed) none = absurd cc
+none_left k (false ∷ owed) none = ap (λ (others : List Bool). false ∷ others) (none_left (k + 1) owed none)

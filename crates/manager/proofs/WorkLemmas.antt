@@ -1,4 +1,4 @@
-use Rattle.std.proofs.Common.{◌≡◌, ℕ, ◌+◌, ◌≤◌, Bool, true, false, cond, List, [], ◌∷◌, ◌++◌, Option, Some, None, length, map, refl, sym, ap, subst, ◌∙◌, append_assoc, append-nil, arith}
+use Rattle.std.proofs.Common.{◌≡◌, ℕ, ◌+◌, ◌≤◌, Bool, true, false, List, [], ◌∷◌, ◌++◌, Option, Some, None, length, map, refl, sym, ap, subst, ◌∙◌, append-nil, arith}
 use Rattle.std.proofs.lemmas.List.{length-append, map-append}
 use Rattle.nvm_model.proofs.ChainLemmas.{chain_keeps, chain_more, chain_one}
 use Rattle.nvm_model.specs.Chain.{Chain}
@@ -8,7 +8,7 @@ use Rattle.manager.specs.declared.side.CopyAnswer.TheVariants.{Copied, Busy, Fau
 use Rattle.manager.proofs.OwedLemmas.{length-owe}
 use Rattle.manager.specs.Owed.{owe_from}
 use Rattle.manager.specs.Port.{HasCause, IsPortCall, PortCall, PortState, WorksAtBoth, port_call}
-use Rattle.manager.specs.Work.{AtWork, Called, DoesOne, IsWorkCall, Takes, Took, Tried, TurnWork, WorkCall, WorkState, after_copy, at_work, copies_in, owe_changes, take_calls, tried_calls}
+use Rattle.manager.specs.Work.{AtWork, Called, DoesOne, IsWorkCall, Takes, Took, Tried, TurnWork, WorkCall, WorkState, after_copy, at_work, copies_in, owe_changes, take_calls}
 use Rattle.manager.specs.Work.WorkCall.{Copy, Take}
 
 -- a call of a port's work, seen at the port
@@ -36,7 +36,7 @@ take_one works answer a b c = record { run = chain_one works a.inside (Take answ
 pub took_none : {I : Type 0} (works : I → WorkCall → I → Type 0) (owed : List Bool) (p : WorkState I) → Took works 0 owed p owed p
 took_none works owed p = record { changes = []; called = record { run = refl; count = refl; left = omega arith }; count_is = refl; owed_is = refl }
 
-owe_more : (xs : List Change) (c : Change) (owed : List Bool) → owe_changes (xs ++ c ∷ []) owed ≡ owe_from c.span.first c.span.count (owe_changes xs owed)
+pub owe_more : (xs : List Change) (c : Change) (owed : List Bool) → owe_changes (xs ++ c ∷ []) owed ≡ owe_from c.span.first c.span.count (owe_changes xs owed)
 owe_more [] c owed = refl
 owe_more (x ∷ xs) c owed = owe_more xs c (owe_from x.span.first x.span.count owed)
 

@@ -1,9 +1,10 @@
-use Rattle.std.specs.Prelude.{◌≡◌, ℕ, ◌+◌, ◌*◌, ◌/◌, ◌%◌, ◌≤◌, List, [], ◌∷◌, ◌++◌, length, map}
+use Rattle.std.specs.Prelude.{◌≡◌, ℕ, ◌+◌, ◌*◌, ◌/◌, ◌%◌, ◌≤◌, List, [], ◌∷◌, ◌++◌, length, map, Bool, true, false, Option, Some, None}
 use Rattle.std.specs.List.{flat_map, range_with_len}
 use Rattle.nvm_model.specs.Chain.{Chain}
 use Rattle.adm_values.specs.declared.command.AdminCmd.{AdminCmd}
 use Rattle.adm_values.specs.declared.command.What.{What}
-use Rattle.adm_values.specs.declared.command.What.TheVariants.{Suspend, Resume, SetState, GetState}
+use Rattle.adm_values.specs.declared.command.What.TheVariants.{Suspend, Resume, SetState, GetState, LogUserData, CreateQueue, DeleteQueue}
+use Rattle.data_queue.specs.declared.change.Change.{Change}
 use Rattle.manager.specs.declared.side.CopyAnswer.{CopyAnswer}
 use Rattle.manager.specs.declared.side.CopyAnswer.TheVariants.{Copied, Fault}
 use Rattle.manager.specs.declared.side.Side.{Side}
@@ -15,14 +16,14 @@ use Rattle.manager.specs.Port.PortCall.{Copy as Copying, Take as Taking, Admin a
 
 pub data Ask : Type 0 where
   Copy : ℕ → CopyAnswer → Ask
-  Take : Ask
+  Take : Option Change → Ask
   Admin : Side → AdminCmd → Ask
   CopyPage : ℕ → Ask
   Mark : ℕ → Ask
 
 abbrev pub asked : PortCall → Ask
 asked (Copying b bytes answer) = Copy b answer
-asked (Taking answer) = Take
+asked (Taking answer) = Take answer
 asked (Commanding side cmd bytes cpl new_bytes) = Admin side cmd
 asked (CopyingPage page) = CopyPage page
 asked (Marking n) = Mark n
@@ -76,3 +77,19 @@ cut_over_asks t blocks pages size = suspend_asks t ++ (copy_asks blocks ++ (page
 
 abbrev pub stopped_asks : ℕ → List ℕ → ℕ → Side → List Ask
 stopped_asks t front last side = suspend_asks t ++ stop_asks front last side
+
+-- After a turn: all changes are taken, until there is none;
+abbrev pub take_asks : List Change → List Ask
+take_asks changes = map (λ (c : Change). Take (Some c)) changes ++ Take None ∷ []
+
+-- logging is started, which says whether one was lost, and then the queue is made anew;
+abbrev pub start_ask : Ask
+start_ask = Admin From (command (LogUserData true 1))
+
+abbrev pub log_asks : Bool → ℕ → List Ask
+log_asks false cells = start_ask ∷ []
+log_asks true cells = start_ask ∷ Admin From (command (DeleteQueue 1)) ∷ Admin From (command (CreateQueue cells)) ∷ start_ask ∷ []
+
+-- and all these pages are copied.
+abbrev pub round_asks : List Change → Bool → ℕ → List ℕ → List Ask
+round_asks changes restarted cells pages = take_asks changes ++ (log_asks restarted cells ++ page_asks pages)

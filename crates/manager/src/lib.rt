@@ -9,12 +9,13 @@
 mod manager;
 mod owed;
 mod port;
+mod round;
 mod side;
 mod steps;
 mod work;
 
 pub use adm_values::{AdminCmd, AdminCpl, What};
 pub use data_queue::Change;
-pub use manager::{Manager, MediumFault, MovePhase, MoveSet, Pause};
+pub use manager::{After, Manager, MediumFault, MovePhase, MoveSet, Pause};
 pub use port::{Port, WorkPort};
 pub use side::{CopyAnswer, Side};

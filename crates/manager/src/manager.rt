@@ -1,6 +1,7 @@
-ghost use Rattle.std.specs.Prelude.{◌≡◌, ◌^◌, ◌<◌, ◌≤◌, ◌↔◌, [], IfOk, IsTrue, false, length, true};
+ghost use Rattle.std.specs.Prelude.{◌≡◌, ◌^◌, ◌<◌, ◌≤◌, ◌↔◌, [], IfOk, IsTrue, None, false, length, true};
 ghost use Rattle.manager.specs.Asks.{Asked};
 ghost use Rattle.manager.specs.Move.{Covers, Fits, HasCut, IsCutOver, IsDue, IsGivenUp, IsMoveSet, IsOn, IsSource, MayCutOver, SidesAfter, Spends, give_up_asks, with_all, with_work, work_in};
+ghost use Rattle.manager.specs.Round.{GoesOn, HasTurned, IsLogged};
 ghost use Rattle.manager.specs.Work.{DoesAll, DoesOne, HasWork, Tried, again, at_work};
 ghost use Rattle.manager.specs.declared.manager.MovePhase.TheVariants.{New, Begun, GivenUp};
 
@@ -51,6 +52,28 @@ pub enum MovePhase {
 pub struct Pause {
     pub blocks: u32,
     pub pages: u32,
+}
+
+/// What becomes of a move after a turn: whether all blocks are owed again, since changes were lost, and how many blocks and
+/// pages are owed.
+#[derive(Clone, Copy, PartialEq, Eq)]
+pub enum After {
+    /// The next turn may come.
+    Go {
+        restarted: bool,
+        owed: u32,
+        pages: u32,
+    },
+    /// The cutover is due.
+    CutOver {
+        restarted: bool,
+        owed: u32,
+        pages: u32,
+    },
+    /// A copy failed, and the move is to be given up.
+    Fault {
+        side: Side,
+    },
 }
 
 /// A call of a medium of that side failed.
@@ -156,6 +179,50 @@ impl Manager {
         ensures rest { self.new ≡ with_work (work_in self.new) self.old }
     {
         self.work.rest(port);
+    }
+
+    /// Ends a round, after a turn. Where a copy failed, nothing is done. Else all changes that aren't taken are, and logging is
+    /// started again: where the queue lost one, it is made anew and all blocks are owed. Then all pages are copied, and the
+    /// blocks of the next turn are drawn, unless the cutover is due. It needs what `cut_over` needs of the port's size and of the
+    /// calls that are left, a source whose queue of changes is live, and that no copy of the turn is left.
+    pub fn after_turn<P: Port>(&mut self, port: &mut P) -> After
+        requires phase { (self.old.phase ≡ Begun) × (self.old.rounds < self.old.set.patience) }
+        requires fits { Fits self.old (P.state port.old) }
+        requires logged { IsLogged self.old.set.cells (P.state port.old).from }
+        requires tried { self.old.failed ≡ None → (self.old.due ≡ []) × (self.old.busy ≡ []) }
+        ensures turned { HasTurned P.moves result self.old (P.state port.old) self.new (P.state port.new) }
+        ensures left { Spends (P.state port.old) (P.state port.new) }
+    {
+        if let Some(side) = self.work.failed() {
+            return After::Fault { side };
+        }
+        let restarted = self.work.settle(port);
+        self.pages.owe_all();
+        copy_pages(&self.pages, port);
+        self.pages.owe_none();
+        self.rounds += 1;
+        self.go_on(restarted)
+    }
+
+    /// Draws the next turn's blocks, unless the cutover is due.
+    fn go_on(&mut self, restarted: bool) -> After
+        ensures { GoesOn restarted result self.old self.new }
+    {
+        let owed = self.work.count();
+        let pages = self.pages.count();
+        if self.is_due() || self.rounds >= self.set.patience {
+            return After::CutOver {
+                restarted,
+                owed,
+                pages,
+            };
+        }
+        self.work.draw();
+        After::Go {
+            restarted,
+            owed,
+            pages,
+        }
     }
 
     /// Suspends the source, copies what is owed, hands the state over and resumes the destination, after turn `t`. Answers

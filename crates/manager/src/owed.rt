@@ -57,6 +57,13 @@ impl Owed {
         }
     }
 
+    /// None is any more.
+    pub(crate) fn owe_none(&mut self)
+        ensures { self.new ≡ replicate (length self.old) false }
+    {
+        'lowest: while self.take_lowest().is_some() {}
+    }
+
     /// How many places there are.
     pub(crate) fn size(&self) -> u32
         requires { length self.now ≤ 131072 }

@@ -138,7 +138,7 @@ pub(crate) fn resume<P: Port>(side: Side, t: u64, port: &mut P)
 }
 
 /// Sends a command, the only one at that time.
-fn send<P: Port>(side: Side, what: What, bytes: &mut [u8], port: &mut P) -> AdminCpl
+pub(crate) fn send<P: Port>(side: Side, what: What, bytes: &mut [u8], port: &mut P) -> AdminCpl
     requires left { 1 ≤ (P.state port.old).left }
     requires quiet { IsQuiet (side_of side (P.state port.old)) }
     requires range { IsInRange what }

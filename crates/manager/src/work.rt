@@ -1,12 +1,15 @@
 // The work of a turn: blocks are copied, and changes are taken.
 ghost use Rattle.std.specs.Prelude.{◌≡◌, ◌<◌, ◌≤◌, ◌∷◌, [], All, IfOk, None, drop, false, length, replicate, take, true, vec_capacity, vec_len};
 ghost use Rattle.manager.specs.Owed.{places_of};
+ghost use Rattle.manager.specs.Move.{IsQuiet};
 ghost use Rattle.manager.specs.Parts.{DoesCopies};
+ghost use Rattle.manager.specs.Round.{IsLogged, Settles};
 ghost use Rattle.manager.specs.Work.{DoesAll, DoesOne, Draws, HasWork, Takes, Tried, again, at_work};
 
 use crate::manager::MediumFault;
 use crate::owed::Owed;
 use crate::port::{Port, WorkPort};
+use crate::round::{start_log, take_all};
 use crate::side::{CopyAnswer, Side};
 use crate::steps::copy_blocks;
 use mig_base::OutOfMemory;
@@ -104,6 +107,23 @@ impl Work {
         ensures { result ≡ self.now.failed }
     {
         self.failed
+    }
+
+    /// Takes all changes that aren't taken, and starts logging at the source. Answers whether a change was lost before: then all
+    /// blocks are owed.
+    pub(crate) fn settle<P: Port>(&mut self, port: &mut P) -> bool
+        requires cells { (2 ≤ self.old.cells) × (self.old.cells ≤ 65536) × (length self.old.owed ≤ 131072) }
+        requires left { 4 ≤ (P.state port.old).left }
+        requires from { IsQuiet (P.state port.old).from × IsLogged self.old.cells (P.state port.old).from }
+        ensures settled { Settles P.moves self.old.cells result self.old.owed (P.state port.old) self.new.owed (P.state port.new) }
+        ensures rest { (self.new ≡ record self.old { owed = self.new.owed }) × (length self.new.owed ≡ length self.old.owed) }
+    {
+        take_all(&mut self.owed, port);
+        let restarted = start_log(self.cells, port);
+        if restarted {
+            self.owed.owe_all();
+        }
+        restarted
     }
 
     /// Whether a copy of this turn wasn't tried yet and none failed.

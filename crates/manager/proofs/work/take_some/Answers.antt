@@ -1,4 +1,4 @@
-use Rattle.std.proofs.Common.{◌≡◌, Option, sym, subst, ◌∙◌, arith}
+use Rattle.std.proofs.Common.{◌∙◌, arith}
 use Rattle.manager.proofs.WorkLemmas.{takes_end, took_more}
 use Rattle.manager.proofs.work.take_some.Goals as goal
 

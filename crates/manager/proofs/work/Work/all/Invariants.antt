@@ -1,4 +1,4 @@
-use Rattle.std.proofs.Common.{◌≡◌, ◌+◌, ◌≤◌, List, length}
+use Rattle.std.proofs.Common.{◌≡◌, ◌≤◌, List, length}
 use Rattle.nvm_model.specs.Chain.{Chain}
 use Rattle.manager.specs.Work.{DoesOne, Tried, at_work}
 use Rattle.manager.proofs.work.Work.all.Given as goal

@@ -1,4 +1,4 @@
-use Rattle.std.proofs.Common.{ap, ◌∙◌}
+use Rattle.std.proofs.Common.{ap}
 use Rattle.manager.specs.Work.{TurnWork}
 use Rattle.manager.proofs.WorkLemmas.{none_busy}
 use Rattle.manager.proofs.work.Work.rest.Goals as goal
