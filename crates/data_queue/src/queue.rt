@@ -1,6 +1,7 @@
 ghost use Rattle.std.specs.Prelude.{◌≡◌, ◌<◌, ◌≤◌, ◌==◌, [], IfErr, IfOk, OnErr, OnOk, false, is_err, is_none, is_ok, length, not, slice_index_or, true};
 ghost use Rattle.data_queue.specs.Change.{IsChange};
 ghost use Rattle.data_queue.specs.Log.{HasLog, IsLog, Posted, Takes, TakesBefore, is_head, is_lost};
+ghost use Rattle.data_queue.specs.Places.{ArePlaces, queue_of};
 
 use crate::{Change, Places};
 use mig_base::OutOfMemory;
@@ -79,6 +80,33 @@ impl DataQueue {
         ensures { result ≡ length self.now.cells }
     {
         self.cells.len() as u32
+    }
+
+    /// Its places.
+    pub fn places(&self) -> Places
+        ensures value { queue_of result self.now.cells ≡ self.now }
+        ensures sound { ArePlaces (length self.now.cells) result }
+    {
+        self.places
+    }
+
+    /// Its cells, and its places.
+    pub fn into_parts(self) -> (Vec<[u8; 32]>, Places)
+        ensures value { queue_of result.1 result.0.items ≡ self }
+        ensures sound { ArePlaces (length result.0.items) result.1 }
+        ensures log { result.1.live ≡ true → HasLog (queue_of result.1 result.0.items) }
+    {
+        let DataQueue { cells, places } = self;
+        (cells, places)
+    }
+
+    /// The queue of these cells and places, which `into_parts` gave or which are like those.
+    pub fn from_parts(cells: Vec<[u8; 32]>, places: Places) -> DataQueue
+        requires places { ArePlaces (length cells.items) places }
+        requires log { places.live ≡ true → HasLog (queue_of places cells.items) }
+        ensures { result ≡ queue_of places cells.items }
+    {
+        DataQueue { cells, places }
     }
 
     /// The bytes of a cell.
