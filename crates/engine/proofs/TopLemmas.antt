@@ -19,6 +19,7 @@ use Rattle.turns.proofs.AskedLaws.{run_asks}
 use Rattle.turns.proofs.StageLineLaws.{run_is_whole}
 use Rattle.turns.proofs.EndLaws.{is_untouched}
 use Rattle.turns.proofs.RanLaws.{ran}
+use Rattle.turns.proofs.TraceLaws.{run_segments}
 use Rattle.session.specs.declared.ending.Ending.{Ending}
 use Rattle.session.specs.declared.ending.Ending.TheVariants as ending
 use Rattle.session.specs.Opened.{IsNewPlace, Opens}
@@ -212,6 +213,7 @@ run_of {M} {I} {E} {state} {moves} {input} {s} {old} {new} {result = result} sta
         source_sizes = rw g.left.from source_sizes;
         destination_sizes = rw g.left.to destination_sizes;
       };
+      segments = run_segments state moves s (start s old) stages g.end (record { script = refl; phase = refl; side = refl }) g.ran.run;
       faults = record { never_fell = rw (g.left.from, g.left.to) g.ran.never_fell; causes = rw (g.left.from, g.left.to) g.ran.causes };
       unmoved = λ e. let stays = asks.stays (none e) in is_untouched (start s old) g.end refl stays.0 stays.1 stays.2;
       over = on_ended status (λ is. record { over = g.over (answer.failed ∙ is); whole = run_is_whole state moves (start s old) stages g.end refl refl refl (g.over (answer.failed ∙ is)) g.ran.run; gave_up = says is });

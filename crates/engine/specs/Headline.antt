@@ -7,6 +7,7 @@ use Rattle.nvm_model.specs.declared.trace.Step.{Step}
 use Rattle.nvm_model.specs.Chain.{Chain}
 use Rattle.nvm_model.specs.History.{Complete, IsWhole, Reaches, events_before_resume, events_of, faults_shown, has_given_up}
 use Rattle.nvm_model.specs.Medium.{HaveSize, IsAt, MediumState, faults_in, told_in}
+use Rattle.nvm_model.specs.Segment.{HaveSegments}
 use Rattle.nvm_model.specs.Shelf.{joined}
 use Rattle.nvm_model.specs.Text.{IsTranscript, text_of}
 use Rattle.nvm_model.specs.Rounds.{RunsInRounds}
@@ -118,6 +119,10 @@ pub record IsRun {M I : Type 0} (state : M → MediumState I) (moves : I → Ste
   -- failed, at the medium of its shelf alone; for a move a mark at each, a get at the source and a put at the destination for
   -- each block, up to one that failed, and a mark at each. No call is made again.
   pub media : AreCalled state moves script stages old new
+  -- Cut at its marks, the trace of each medium has in a round the steps of the pieces and one get or put for each of the lowest
+  -- blocks that are owed, in the pause one for each that is owed, ascending, and a front of these where a copy failed. The
+  -- destination gets no call before the migration begins, nor the side that the guests left behind it.
+  pub segments : HaveSegments state moves script (start script old) stages
   -- No count of failed calls fell. What the lines show of faults is at most what the counts of both hosts rose by, where none
   -- stands at its type's end; so a move is given up only where a medium failed.
   pub faults : HaveCauses (lines_in stages) (faults_of state old) (faults_of state new)
