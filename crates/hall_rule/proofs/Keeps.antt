@@ -22,8 +22,8 @@ use Rattle.hall_rule.specs.declared.view.View.{View}
 use Rattle.hall_rule.specs.declared.view.Desk.{Desk}
 use Rattle.hall_rule.specs.declared.view.Lock.{Lock}
 use Rattle.hall_rule.specs.declared.view.Note.{Note}
-use Rattle.hall_rule.specs.Notes.{AllAre, Among, IsNote, NoneAbove, Noted, Outdated, Past, Why, digit}
-use Rattle.hall_rule.proofs.Notes.{above_at, above_itself, after_busy, after_load, after_lock, after_release, after_split, all_map, counts_at, counts_grow, digit_of, last_among, note_kept, noted_same, one_below, outdated_lock, outdated_release, outdated_same, small_counts}
+use Rattle.hall_rule.specs.Notes.{AllAre, Among, IsBusy, IsNote, NoneAbove, Noted, Outdated, Past, Why, digit}
+use Rattle.hall_rule.proofs.Notes.{above_at, above_itself, after_busy, after_load, after_lock, after_release, after_split, all_map, busy, counts_at, counts_grow, digit_of, last_among, note_kept, noted_same, one_below, outdated_lock, outdated_release, outdated_same, small_counts}
 use Rattle.hall_rule.proofs.Lists.{put, put-same, put-other, put-all, at_end, at_get, total-append, total-set, term_le, Below-more, Below-append, Rises-append, by-append, in_shelf-append, shelves-append, entries-grow, AllFrom-append}
 use Rattle.hall_rule.specs.Turn.{Ordered, Known, insert}
 use Rattle.hall_rule.proofs.Turns.{insert-ordered, ranks-apart, by-insert, by-insert-other, in-insert, in-insert-other, Known-insert}
@@ -296,16 +296,21 @@ module _ {S : Type 0} (fits : ℕ → List Item → S → Type 0) (cap : ℕ →
       let at : k - 9 ≡ i = omega arith in
       let seen = after_load (length s.homes) (word_of s.words) o.holders (λ i. counts i o.lanes) o.locks o.notes o.sights o.noted m.0.holder i past in
       let same : put o.sights m.0.holder (i + 1, word_of s.words i) ≡ put o.sights m.0.holder (w.looked, w.seen) = ap₂ (λ (a b : ℕ). put o.sights m.0.holder (a + 1, get_or s.words b 0)) (sym at) (sym is) in
-      let kept : o.notes ≡ put o.notes m.0.holder m.0.notes = λ j x. (put-all (λ (a : ℕ) (z : List Note). o.notes a ≡ z) o.notes m.0.holder m.0.notes x (sym name.notes_are) (λ _. refl)) j in
-      (w, keeps, tt, sighted s o k id m.0 w m.0.notes me has (record { holder = refl; at = refl; word = refl; log = refl; items = refl; todo = refl; locks = refl; desks = refl }) refl refl refl refl
-      (subst (λ (z : ℕ → ℕ × ℕ). Noted (length s.homes) (word_of s.words) o.holders (λ i. counts i o.lanes) o.locks (put o.notes m.0.holder m.0.notes) z) same
-      (subst (λ (z : ℕ → List Note). Noted (length s.homes) (word_of s.words) o.holders (λ i. counts i o.lanes) o.locks z (put o.sights m.0.holder (i + 1, word_of s.words i))) kept seen)), refl)
+      let kept : o.notes ≡ put o.notes m.0.holder m.0.notes = λ j x. (put-all (λ (a : ℕ) (z : List Note). o.notes a ≡ z) o.notes m.0.holder m.0.notes x (sym name.notes_are) (λ _. refl)) j in (
+        w,
+        keeps,
+        tt,
+        sighted s o k id m.0 w m.0.notes me has (record { holder = refl; at = refl; word = refl; log = refl; items = refl; todo = refl; locks = refl; desks = refl }) refl refl refl refl
+            (subst (λ (z : ℕ → ℕ × ℕ). Noted (length s.homes) (word_of s.words) o.holders (λ i. counts i o.lanes) o.locks (put o.notes m.0.holder m.0.notes) z) same
+            (subst (λ (z : ℕ → List Note). Noted (length s.homes) (word_of s.words) o.holders (λ i. counts i o.lanes) o.locks z (put o.sights m.0.holder (i + 1, word_of s.words i))) kept seen)),
+        refl,
+      )
 
   -- the shelf's word isn't the one expected: a note
   noteworthy : (s : St) (o : Orderly fits cap plan serves s) (id : ℕ) (v : View) (i seen : ℕ) → i < length s.homes → get_elem? s.views id ≡ some v → 0 < v.holder → v.at ≡ 0
       → Past seen (counts i o.lanes) → word_of s.words i ≢ seen / 16 * 16
       → IsNote o.locks v.holder (record { shelf = i; seen = seen; read = word_of s.words i })
-  noteworthy s o id v i seen near me pos out past miss = record { after = counts i o.lanes; holder = o.holders i; read = o.shown i near; past = past; why = because (o.holders i) refl } where
+  noteworthy s o id v i seen near me pos out past miss = record { after = counts i o.lanes; holder = o.holders i; few = omega (arith, holder_small s o i near); small = small_counts i o.lanes (o.few i); read = o.shown i near; past = past; why = because (o.holders i) refl } where
     because : (b : ℕ) → o.holders i ≡ b → Why o.locks v.holder i (word_of s.words i) past.before (counts i o.lanes) b
     because zero e = one_below past.before (counts i o.lanes) past.long past.le (λ q. miss (omega (arith, o.shown i near, e, past.is, past.small, q)))
     because (suc b) e =
@@ -419,10 +424,15 @@ module _ {S : Type 0} (fits : ℕ → List Item → S → Type 0) (cap : ℕ →
       let note = noteworthy s o id m.0 i m.0.seen near me has out (subst (λ (z : ℕ × ℕ). Past z.1 (counts i o.lanes)) name.sight seen) (λ z. miss (sym read ∙ (z ∙ sym even))) in
       let x : Note = record { shelf = m.0.looked - 1; seen = m.0.seen; read = get_or s.words k 0 } in
       let shelf : i ≡ m.0.looked - 1 = omega arith in
-      let told : IsNote o.locks m.0.holder x = subst (λ (z : Note). IsNote o.locks m.0.holder z) (λ j. record { shelf = shelf j; seen = m.0.seen; read = read j }) note in
-      (w, keeps, tt, sighted s o k id m.0 w (m.0.notes ++ x ∷ []) me has (record { holder = refl; at = refl; word = refl; log = refl; items = refl; todo = refl; locks = refl; desks = refl }) refl refl refl refl
-      (subst (λ (z : List Note). Noted (length s.homes) (word_of s.words) o.holders (λ i. counts i o.lanes) o.locks (put o.notes m.0.holder (z ++ x ∷ [])) (put o.sights m.0.holder (0, 0))) (sym name.notes_are)
-      (after_busy (length s.homes) (word_of s.words) o.holders (λ i. counts i o.lanes) o.locks o.notes o.sights o.noted m.0.holder x told)), ((λ hit. absurd (miss hit)), λ _. refl)))
+      let told : IsNote o.locks m.0.holder x = subst (λ (z : Note). IsNote o.locks m.0.holder z) (λ j. record { shelf = shelf j; seen = m.0.seen; read = read j }) note in (
+        w,
+        keeps,
+        tt,
+        sighted s o k id m.0 w (m.0.notes ++ x ∷ []) me has (record { holder = refl; at = refl; word = refl; log = refl; items = refl; todo = refl; locks = refl; desks = refl }) refl refl refl refl
+            (subst (λ (z : List Note). Noted (length s.homes) (word_of s.words) o.holders (λ i. counts i o.lanes) o.locks (put o.notes m.0.holder (z ++ x ∷ [])) (put o.sights m.0.holder (0, 0))) (sym name.notes_are)
+            (after_busy (length s.homes) (word_of s.words) o.holders (λ i. counts i o.lanes) o.locks o.notes o.sights o.noted m.0.holder x told)),
+        ((λ hit. absurd (miss hit)), λ _. refl),
+      ))
 
   -- the same with one view more
   each_more : (P : ℕ → View → Type 0) (vs : List View) (j : ℕ) (w x : View) → P j w → P (length vs) x → ((k : ℕ) (u : View) → k ≢ j → get_elem? vs k ≡ some u → P k u)
@@ -867,7 +877,8 @@ module _ {S : Type 0} (fits : ℕ → List Item → S → Type 0) (cap : ℕ →
         left = λ h p q. let k = o.kept h (none-out h) in ap (λ (z : List ℕ). get_or z h 0) (sym f.2) ∙ (o.left h p q ∙ (ap (λ (z : ℕ). counted z (length (o.lanes h))) (sym k.2) ∙ (ap (λ (z : List Item). counted (desk_at o.desks h).told (length z)) (sym k.0) ∙ ap (λ (l : List Desk). counted (desk_at l h).told (length (desk_at l h).items)) (sym lead.2))));
         planned = λ h p q. let k = o.kept h (none-out h) in ap (λ (l : List Desk). shelves (desk_at l h).items ++ (desk_at l h).todo) lead.2 ∙ (ap (λ (z : List Item). shelves z ++ (desk_at o.desks h).todo) k.0 ∙ (ap (λ (z : List ℕ). shelves (o.lanes h) ++ z) k.1 ∙ o.planned h p q));
         served = λ h. subst (AllFrom (serves h) 0) (mine h) (o.served h);
-        noted = λ h. subst (λ (l : List Note). AllAre (IsNote (λ k. (desk_of v k).locks) h) l) (notes-mine h) (all_map (IsNote o.locks h) (IsNote (λ k. (desk_of v k).locks) h) (o.notes h) (λ x is. note_kept o.locks (λ k. (desk_of v k).locks) h x (λ a i w m. subst (Among i w) (locks-mine a) m) is) (o.noted.are h));
+        noted = λ h. subst (λ (l : List Note). AllAre (IsBusy (λ k. (desk_of v k).locks) h) l) (notes-mine h) (all_map (IsNote o.locks h) (IsBusy (λ k. (desk_of v k).locks) h) (o.notes h) (λ x is. busy (λ k. (desk_of v k).locks) h x (note_kept o.locks (λ k. (desk_of v k).locks) h x (λ a i w m. subst (Among i w) (locks-mine a) m) is)) (o.noted.are h));
+        few = omega (arith, o.bound, f.2, ap (λ (l : List ℕ). get_or l 0 0) f.2);
         outdated = λ h i w p q l a. let near : i < length s.homes = omega (arith, f.3, l) in ⊎_elim (λ (t : (w ≡ word_of s.words i) × (o.holders i ≡ h)). absurd (omega (arith, t.1, none-held i near, p)))
             (λ (t : digit (w / 16) (h - 1) < digit (word_of s.words i / 16) (h - 1)). omega (arith, t, ap (λ (z : ℕ). digit (z / 16) (h - 1)) (o.shown i near), digit_of (o.holders i) (h - 1) (counts i o.lanes) (omega (arith, none-held i near)) (small_counts i o.lanes (o.few i)), counts_at i h o.lanes p q, ap (λ (z : List Item). length (in_shelf i z)) (mine h)))
             (o.outdated.lower h i w p q near (subst (Among i w) (sym (locks-mine h)) a));

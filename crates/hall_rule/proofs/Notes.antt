@@ -1,10 +1,10 @@
 -- A busy shelf leaves a note.
-use Rattle.std.proofs.Common.{◌≡◌, ◌≢◌, ℕ, zero, suc, ◌+◌, ◌/◌, ◌-◌, ◌<◌, ◌≤◌, List, [], ◌∷◌, ◌++◌, length, get_or, refl, ap, sym, ◌∙◌, subst, arith, inl, inr, ⊎_elim, ◌⊎◌}
+use Rattle.std.proofs.Common.{◌≡◌, ◌≢◌, ℕ, zero, suc, ◌+◌, ◌/◌, ◌%◌, ◌-◌, ◌<◌, ◌≤◌, List, [], ◌∷◌, ◌++◌, length, get_or, refl, ap, sym, ◌∙◌, subst, arith, inl, inr, ⊎_elim, ◌⊎◌}
 use mathlib.Core.Logic.{dite}
 use native.Mathlib.Decide.{ℕ_discrete}
-use Rattle.hall_rule.specs.Words.{pack, word_for, count, counts}
-use Rattle.hall_rule.specs.Notes.{NoneAbove, SomeBelow, Among, Past, Why, IsNote, Last, AllAre, Noted, Outdated, digit}
-use Rattle.hall_rule.proofs.Packs.{Small, digit-pack}
+use Rattle.hall_rule.specs.Words.{Small, pack, word_for, count, counts}
+use Rattle.hall_rule.specs.Notes.{NoneAbove, SomeBelow, Among, Past, Why, IsNote, IsBusy, BusyBy, Last, AllAre, Noted, Outdated, digit}
+use Rattle.hall_rule.proofs.Packs.{digit-pack}
 use Rattle.hall_rule.proofs.Lists.{put, put-same, put-other, put-all}
 use Rattle.hall_rule.specs.declared.item.Item.{Item}
 use Rattle.hall_rule.specs.declared.view.Lock.{Lock}
@@ -35,7 +35,7 @@ past_more w now more p q l = record { holder = p.holder; before = p.before; is =
 
 -- a note stays one while locks are added
 pub note_kept : (locks more : ℕ → List Lock) (h : ℕ) (x : Note) → ((k i w : ℕ) → Among i w (locks k) → Among i w (more k)) → IsNote locks h x → IsNote more h x
-note_kept locks more h x grows is = record { after = is.after; holder = is.holder; read = is.read; past = is.past; why = keep is.holder is.why } where
+note_kept locks more h x grows is = record { after = is.after; holder = is.holder; few = is.few; small = is.small; read = is.read; past = is.past; why = keep is.holder is.why } where
   keep : (b : ℕ) → Why locks h x.shelf x.read is.past.before is.after b → Why more h x.shelf x.read is.past.before is.after b
   keep zero w = w
   keep (suc b) w = (w.0, grows (suc b) x.shelf x.read w.1)
@@ -178,3 +178,27 @@ module _ (n : ℕ) (word holders : ℕ → ℕ) (locks : ℕ → List Lock) (o :
         (λ (t : digit (v / 16) (k - 1) < digit (word i / 16) (k - 1)). inr (omega (arith, t, up (k - 1)))) (subst (λ (x : ℕ). Told word holders k x v) e (o.lower k r v p q l a)))))
         (λ ne. subst (λ (z : ℕ). ((v ≡ z) × (put holders i 0 r ≡ k)) ⊎ (digit (v / 16) (k - 1) < digit (z / 16) (k - 1))) (sym (put-other word i r new ne)) (subst (λ (z : ℕ). ((v ≡ word r) × (z ≡ k)) ⊎ (digit (v / 16) (k - 1) < digit (word r / 16) (k - 1))) (sym (put-other holders i r 0 ne)) (o.lower k r v p q l a)));
   }
+
+some_at : (cs ds : List ℕ) → SomeBelow cs ds → (k : ℕ) × (get_or cs k 0 < get_or ds k 0)
+some_at [] ds a = absurd a
+some_at (c ∷ cs) [] a = absurd a
+some_at (c ∷ cs) (d ∷ ds) a = ⊎_elim (λ (t : c < d). (zero, t)) (λ (t : SomeBelow cs ds). let r = some_at cs ds t in (suc r.0, r.1)) a
+
+small_below : (cs ds : List ℕ) → NoneAbove cs ds → Small ds → Small cs
+small_below [] ds a s = tt
+small_below (c ∷ cs) [] a s = absurd a
+small_below (c ∷ cs) (d ∷ ds) a s = (omega (arith, a.0, s.0), small_below cs ds a.1 s.1)
+
+-- a note read off its words
+pub busy : (locks : ℕ → List Lock) (h : ℕ) (x : Note) → IsNote locks h x → IsBusy locks h x
+busy locks h x is =
+    let before : (k : ℕ) → digit (x.seen / 16) k ≡ get_or is.past.before k 0 = λ k. ap (λ (z : ℕ). digit (z / 16) k) is.past.is ∙ digit_of is.past.holder k is.past.before is.past.small (small_below is.past.before is.after is.past.le is.small) in
+    let after : (k : ℕ) → digit (x.read / 16) k ≡ get_or is.after k 0 = λ k. ap (λ (z : ℕ). digit (z / 16) k) is.read ∙ digit_of is.holder k is.after is.few is.small in
+    let whose : is.holder ≡ x.read % 16 = omega (arith, is.read, is.few) in
+    record {
+      later = λ k. omega (arith, before k, after k, above_at is.past.before is.after k is.past.le);
+      by_whom = subst (BusyBy locks h x) whose (by_cause is.holder is.why);
+    } where
+      by_cause : (b : ℕ) → Why locks h x.shelf x.read is.past.before is.after b → BusyBy locks h x b
+      by_cause zero w = let t = some_at is.past.before is.after w in (t.0, omega (arith, t.1, ap (λ (z : ℕ). digit (z / 16) t.0) is.past.is ∙ digit_of is.past.holder t.0 is.past.before is.past.small (small_below is.past.before is.after is.past.le is.small), ap (λ (z : ℕ). digit (z / 16) t.0) is.read ∙ digit_of is.holder t.0 is.after is.few is.small))
+      by_cause (suc b) w = w

@@ -1,11 +1,7 @@
 -- Counts packed into a word.
 use Rattle.std.proofs.Common.{◌≡◌, ℕ, zero, suc, ◌+◌, ap, ◌∙◌, get_or, ◌/◌, ◌*◌, ◌%◌, ◌<◌, List, [], ◌∷◌, length, get_or, set, refl, arith, subst}
 use Rattle.hall_rule.specs.Notes.{digit}
-use Rattle.hall_rule.specs.Words.{pack, weight, word_for}
-
-abbrev pub Small : List ℕ → Type 0
-Small [] = Unit {0}
-Small (c ∷ cs) = (c < 128) × Small cs
+use Rattle.hall_rule.specs.Words.{pack, weight, word_for, Small}
 
 -- one more at the place k
 pub pack-more : (cs : List ℕ) (k n : ℕ) → k < length cs → n ≡ get_or cs k 0 + 1 → pack (set cs k n) ≡ pack cs + weight k

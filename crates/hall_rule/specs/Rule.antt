@@ -6,7 +6,7 @@ use lib.ListN.{get_elem?}
 use Rattle.atomic_table.specs.Table.{State}
 use Rattle.hall_rule.specs.Items.{AllFrom, total, by, in_shelf, entries_of, Below, Rises, times, shelves}
 use Rattle.hall_rule.specs.Turn.{Ordered, Known}
-use Rattle.hall_rule.specs.Notes.{AllAre, Among, IsNote, Noted, Outdated, digit}
+use Rattle.hall_rule.specs.Notes.{AllAre, Among, IsBusy, Noted, Outdated, digit}
 use Rattle.hall_rule.specs.Words.{word_for, count, counts}
 use Rattle.hall_rule.specs.declared.item.Item.{Item}
 use Rattle.hall_rule.specs.declared.view.View.{View}
@@ -154,9 +154,10 @@ module _ {S : Type 0} (fits : ℕ → List Item → S → Type 0) (cap : ℕ →
     pub back : (i : ℕ) → i < length xs → (x : S) × (get_elem? xs i ≡ some (Some x)) × fits i (in_shelf i turn) x
     pub whose : (h : ℕ) → by h turn ≡ (desk_at desks h).items
     pub below : (h : ℕ) → Below next (by h turn)
+    pub few : next ≤ 10376293541461622784
     pub left : (h : ℕ) → 0 < h → h < 9 → slice_index words h ≡ counted (desk_at desks h).told (length (desk_at desks h).items)
     pub planned : (h : ℕ) → 0 < h → h < 9 → shelves (desk_at desks h).items ++ (desk_at desks h).todo ≡ plan h
     pub served : (h : ℕ) → AllFrom (serves h) 0 (desk_at desks h).items
-    pub noted : (h : ℕ) → AllAre (IsNote (λ k. (desk_at desks k).locks) h) (desk_at desks h).notes
+    pub noted : (h : ℕ) → AllAre (IsBusy (λ k. (desk_at desks k).locks) h) (desk_at desks h).notes
     -- each lock of a lane wrote a word with fewer of its pieces than were done in the end
     pub outdated : (h i w : ℕ) → 0 < h → h < 9 → i < length xs → Among i w (desk_at desks h).locks → digit (w / 16) (h - 1) < length (in_shelf i (desk_at desks h).items)
