@@ -1,5 +1,5 @@
 -- Each step keeps the rule.
-use Rattle.std.proofs.Common.{◌≡◌, ℕ, zero, suc, ◌+◌, ◌-◌, ◌*◌, ◌/◌, ◌%◌, ◌^◌, ◌<◌, ◌≤◌, eqb, cond, ◌≢◌, List, [], ◌∷◌, ◌++◌, map, length, get_or, set, sym, refl, ap, ◌∙◌, subst, ⊎_elim, arith, length-set, get_or-set_other, get_or-set_same, append-nil, append_assoc, length-append, eq-eqb, ne_eqb, Some, max}
+use Rattle.std.proofs.Common.{◌≡◌, ℕ, zero, suc, ◌+◌, ◌-◌, ◌*◌, ◌/◌, ◌%◌, ◌^◌, ◌<◌, ◌≤◌, eqb, cond, ◌≢◌, List, [], ◌∷◌, ◌++◌, map, length, get_or, set, sym, refl, ap, ap₂, ◌∙◌, subst, ⊎_elim, arith, length-set, get_or-set_other, get_or-set_same, append-nil, append_assoc, length-append, eq-eqb, ne_eqb, Some, max}
 use Rattle.std.specs.Prelude.{Option}
 use Rattle.std.proofs.lemmas.List.{length-map}
 use mathlib.Core.Logic.{dite}
@@ -13,13 +13,17 @@ use Rattle.atomic_table.specs.Table.{State, Me, step, Act, keeps, takes, gives, 
 use Rattle.atomic_table.proofs.Lists.{at_set, set_here, set_else, at_longer, at_map}
 use Rattle.hall_rule.specs.Items.{AllFrom, entries_of, entry_for, entry_of, total, by, in_shelf, Below, Rises, times, shelves}
 use Rattle.hall_rule.specs.Words.{pack, weight, word_for, count, counts}
-use Rattle.hall_rule.specs.Rule.{Orderly, Holds, Named, AtHome, Away, desk, desk_at, desk_of, no_desk, Leads, Whole, purse, pending, opener, counted}
+use Rattle.hall_rule.specs.Rule.{Orderly, Holds, Named, AtHome, Away, desk, desk_at, desk_of, no_desk, word_of, Leads, Whole, purse, pending, opener, counted}
 use Rattle.hall_rule.specs.Plays.{peeked, aimed, telling, raised, drawn, Took, locked, did_some, copied_some, locking, looking, noting, releasing, split_left, split_right, joined, spent, rest_of}
 use Rattle.hall_rule.specs.declared.item.Work.{Work}
 use Rattle.hall_rule.specs.declared.item.Work.TheVariants.{Served, Copied}
 use Rattle.hall_rule.specs.declared.item.Item.{Item}
 use Rattle.hall_rule.specs.declared.view.View.{View}
 use Rattle.hall_rule.specs.declared.view.Desk.{Desk}
+use Rattle.hall_rule.specs.declared.view.Lock.{Lock}
+use Rattle.hall_rule.specs.declared.view.Note.{Note}
+use Rattle.hall_rule.specs.Notes.{AllAre, Among, IsBusy, IsNote, NoneAbove, Noted, Outdated, Past, Why, digit}
+use Rattle.hall_rule.proofs.Notes.{above_at, above_itself, after_busy, after_load, after_lock, after_release, after_split, all_map, busy, counts_at, counts_grow, digit_of, last_among, note_kept, noted_same, one_below, outdated_lock, outdated_release, outdated_same, small_counts}
 use Rattle.hall_rule.proofs.Lists.{put, put-same, put-other, put-all, at_end, at_get, total-append, total-set, term_le, Below-more, Below-append, Rises-append, by-append, in_shelf-append, shelves-append, entries-grow, AllFrom-append}
 use Rattle.hall_rule.specs.Turn.{Ordered, Known, insert}
 use Rattle.hall_rule.proofs.Turns.{insert-ordered, ranks-apart, by-insert, by-insert-other, in-insert, in-insert-other, Known-insert}
@@ -29,31 +33,18 @@ only_one : (P : View → Type 0) (v : View) → P v → (j : ℕ) (u : View) →
 only_one P v p zero u e = subst P (some-injective v u e) p
 only_one P v p (suc j) u e = absurd (some-ne-none u (sym e))
 
-ten_empty : (plan : ℕ → List ℕ) (h : ℕ) → (desk_of (opener plan) h).items ≡ []
-ten_empty plan zero = refl
-ten_empty plan (suc zero) = refl
-ten_empty plan (suc (suc zero)) = refl
-ten_empty plan (suc (suc (suc zero))) = refl
-ten_empty plan (suc (suc (suc (suc zero)))) = refl
-ten_empty plan (suc (suc (suc (suc (suc zero))))) = refl
-ten_empty plan (suc (suc (suc (suc (suc (suc zero)))))) = refl
-ten_empty plan (suc (suc (suc (suc (suc (suc (suc zero))))))) = refl
-ten_empty plan (suc (suc (suc (suc (suc (suc (suc (suc zero)))))))) = refl
-ten_empty plan (suc (suc (suc (suc (suc (suc (suc (suc (suc zero))))))))) = refl
-ten_empty plan (suc (suc (suc (suc (suc (suc (suc (suc (suc (suc h)))))))))) = refl
-
-ten_told : (plan : ℕ → List ℕ) (h : ℕ) → (desk_of (opener plan) h).told ≡ 0
-ten_told plan zero = refl
-ten_told plan (suc zero) = refl
-ten_told plan (suc (suc zero)) = refl
-ten_told plan (suc (suc (suc zero))) = refl
-ten_told plan (suc (suc (suc (suc zero)))) = refl
-ten_told plan (suc (suc (suc (suc (suc zero))))) = refl
-ten_told plan (suc (suc (suc (suc (suc (suc zero)))))) = refl
-ten_told plan (suc (suc (suc (suc (suc (suc (suc zero))))))) = refl
-ten_told plan (suc (suc (suc (suc (suc (suc (suc (suc zero)))))))) = refl
-ten_told plan (suc (suc (suc (suc (suc (suc (suc (suc (suc zero))))))))) = refl
-ten_told plan (suc (suc (suc (suc (suc (suc (suc (suc (suc (suc h)))))))))) = refl
+ten_bare : (plan : ℕ → List ℕ) (h : ℕ) → ((desk_of (opener plan) h).items ≡ []) × ((desk_of (opener plan) h).told ≡ 0) × ((desk_of (opener plan) h).locks ≡ []) × ((desk_of (opener plan) h).notes ≡ [])
+ten_bare plan zero = (refl, refl, refl, refl)
+ten_bare plan (suc zero) = (refl, refl, refl, refl)
+ten_bare plan (suc (suc zero)) = (refl, refl, refl, refl)
+ten_bare plan (suc (suc (suc zero))) = (refl, refl, refl, refl)
+ten_bare plan (suc (suc (suc (suc zero)))) = (refl, refl, refl, refl)
+ten_bare plan (suc (suc (suc (suc (suc zero))))) = (refl, refl, refl, refl)
+ten_bare plan (suc (suc (suc (suc (suc (suc zero)))))) = (refl, refl, refl, refl)
+ten_bare plan (suc (suc (suc (suc (suc (suc (suc zero))))))) = (refl, refl, refl, refl)
+ten_bare plan (suc (suc (suc (suc (suc (suc (suc (suc zero)))))))) = (refl, refl, refl, refl)
+ten_bare plan (suc (suc (suc (suc (suc (suc (suc (suc (suc zero))))))))) = (refl, refl, refl, refl)
+ten_bare plan (suc (suc (suc (suc (suc (suc (suc (suc (suc (suc h)))))))))) = (refl, refl, refl, refl)
 
 ten_planned : (plan : ℕ → List ℕ) (h : ℕ) → 0 < h → h < 9 → (desk_of (opener plan) h).todo ≡ plan h
 ten_planned plan zero p q = absurd (omega arith)
@@ -82,6 +73,7 @@ module _ {S : Type 0} (fits : ℕ → List Item → S → Type 0) (cap : ℕ →
     log : w.log ≡ v.log
     items : w.items ≡ v.items
     todo : w.todo ≡ v.todo
+    locks : w.locks ≡ v.locks
     desks : w.desks ≡ v.desks
 
   -- what holds of a changed view, and of the others as they were
@@ -102,11 +94,21 @@ module _ {S : Type 0} (fits : ℕ → List Item → S → Type 0) (cap : ℕ →
       (λ n. (l.0, set_else vs j 0 w n ∙ l.1, l.2, l.3, l.4))
 
   -- what holds of who has left after a step of a seat with the view v, which then has the view w
+  -- it keeps what was noted too
+  record Still (v w : View) : Type 0 where
+    told : w.told ≡ v.told
+    notes : w.notes ≡ v.notes
+    looked : w.looked ≡ v.looked
+    seen : w.seen ≡ v.seen
+
   record Leaves (s : St) (o : Orderly fits cap plan serves s) (v w : View) (ws : List ℕ) : Type 0 where
     tolds : ℕ → ℕ
-    others : (h : ℕ) → h ≢ v.holder → tolds h ≡ o.tolds h
-    mine : 0 < v.holder → w.told ≡ tolds v.holder
-    inside : (h : ℕ) → (desk_at o.desks h).out ≡ 0 → tolds h ≡ o.tolds h
+    notes : ℕ → List Note
+    sights : ℕ → ℕ × ℕ
+    others : (h : ℕ) → h ≢ v.holder → (tolds h ≡ o.tolds h) × (notes h ≡ o.notes h) × (sights h ≡ o.sights h)
+    mine : 0 < v.holder → (w.told ≡ tolds v.holder) × (w.notes ≡ notes v.holder) × (sights v.holder ≡ (w.looked, w.seen))
+    inside : (h : ℕ) → (desk_at o.desks h).out ≡ 0 → (tolds h ≡ o.tolds h) × (notes h ≡ o.notes h)
+    noted : Noted (length s.homes) (word_of s.words) o.holders (λ i. counts i o.lanes) o.locks notes sights
     words : (h : ℕ) → 0 < h → h < 9 → get_or ws h 0 ≡ counted (tolds h) (length (o.lanes h))
 
   -- a step that changes no shelf's word
@@ -120,6 +122,11 @@ module _ {S : Type 0} (fits : ℕ → List Item → S → Type 0) (cap : ℕ →
         lanes = o.lanes;
         todos = o.todos;
         tolds = gone.tolds;
+        locks = o.locks;
+        notes = gone.notes;
+        sights = gone.sights;
+        noted = noted_same n (word_of s.words) (word_of ws) o.holders (λ i. counts i o.lanes) (λ i. counts i o.lanes) o.locks gone.notes gone.sights (λ i l. sym (others i)) (λ i l. refl) gone.noted;
+        outdated = outdated_same n (word_of s.words) (word_of ws) o.holders o.locks (λ i l. sym (others i)) o.outdated;
         turn = o.turn;
         ordered = o.ordered;
         whose = o.whose;
@@ -144,19 +151,22 @@ module _ {S : Type 0} (fits : ℕ → List Item → S → Type 0) (cap : ℕ →
         held = each (λ k u. (i : ℕ) → u.at ≡ i + 1 → Holds n ws o.holders o.logs u i) s.views j w
             (λ i e. let t = o.held j v me i (sym same.at ∙ e) in record { inside = t.inside; holder = t.holder ∙ sym same.holder; some_holder = subst (λ (x : ℕ). 0 < x) (sym same.holder) t.some_holder; word = same.word ∙ (t.word ∙ sym (others i)); log = same.log ∙ t.log })
             (λ k u ne at i e. let t = o.held k u at i e in record { inside = t.inside; holder = t.holder; some_holder = t.some_holder; word = t.word ∙ sym (others i); log = t.log });
-        named = each (λ k u. 0 < u.holder → Named o.seats o.lanes o.todos gone.tolds o.desks k u) s.views j w
+        named = each (λ k u. 0 < u.holder → Named o.seats o.lanes o.todos gone.tolds o.locks gone.notes gone.sights o.desks k u) s.views j w
             (λ pos. let t = o.named j v me (subst (λ (x : ℕ). 0 < x) same.holder pos) in record {
               inside = subst (λ (x : ℕ). x < 10) (sym same.holder) t.inside;
               seat = ap o.seats same.holder ∙ t.seat;
               items = same.items ∙ (t.items ∙ ap o.lanes (sym same.holder));
               todo = same.todo ∙ (t.todo ∙ ap o.todos (sym same.holder));
-              told = gone.mine (subst (λ (x : ℕ). 0 < x) same.holder pos) ∙ ap gone.tolds (sym same.holder);
+              told = (gone.mine (subst (λ (x : ℕ). 0 < x) same.holder pos)).0 ∙ ap gone.tolds (sym same.holder);
+              locks_are = same.locks ∙ (t.locks_are ∙ ap o.locks (sym same.holder));
+              notes_are = (gone.mine (subst (λ (x : ℕ). 0 < x) same.holder pos)).1 ∙ ap gone.notes (sym same.holder);
+              sight = ap gone.sights same.holder ∙ (gone.mine (subst (λ (x : ℕ). 0 < x) same.holder pos)).2;
               out = subst (λ (x : ℕ). (desk_at o.desks x).out ≡ 1) (sym same.holder) t.out;
             })
             (λ k u ne at pos. let t = o.named k u at pos in
             let apart : u.holder ≢ v.holder = λ z. ne (sym t.seat ∙ (ap o.seats z ∙ (o.named j v me (subst (λ (x : ℕ). 0 < x) z pos)).seat)) in
-            record { inside = t.inside; seat = t.seat; items = t.items; todo = t.todo; told = t.told ∙ sym (gone.others u.holder apart); out = t.out });
-        kept = λ h out. let k = o.kept h out in (k.0, k.1, k.2 ∙ sym (gone.inside h out));
+            record { inside = t.inside; seat = t.seat; items = t.items; todo = t.todo; told = t.told ∙ sym (gone.others u.holder apart).0; locks_are = t.locks_are; notes_are = t.notes_are ∙ sym (gone.others u.holder apart).1; sight = (gone.others u.holder apart).2 ∙ t.sight; out = t.out });
+        kept = λ h out. let k = o.kept h out in (k.0, k.1, k.2 ∙ sym (gone.inside h out).0, k.3, k.4 ∙ sym (gone.inside h out).1);
         left = gone.words;
         bound = omega (arith, o.bound, total-set purse s.views j v w me, ap (λ (d : List Desk). total (λ (x : Desk). x.budget) d) same.desks);
         low = each (λ k u. u.low ≤ get_or ws 0 0) s.views j w low (λ k u ne at. omega (arith, o.low k u at));
@@ -171,12 +181,12 @@ module _ {S : Type 0} (fits : ℕ → List Item → S → Type 0) (cap : ℕ →
       }
 
   -- the same where no seat leaves
-  moved : (s : St) (o : Orderly fits cap plan serves s) (j : ℕ) (v w : View) (ws : List ℕ) → get_elem? s.views j ≡ some v → Same v w → w.told ≡ v.told
+  moved : (s : St) (o : Orderly fits cap plan serves s) (j : ℕ) (v w : View) (ws : List ℕ) → get_elem? s.views j ≡ some v → Same v w → Still v w
       → length ws ≡ length s.words → ((k : ℕ) → 0 < k → get_or ws k 0 ≡ get_or s.words k 0)
       → get_or s.words 0 0 ≤ get_or ws 0 0 → w.low ≤ get_or ws 0 0 → get_or ws 0 0 + w.budget ≤ get_or s.words 0 0 + v.budget
       → Orderly fits cap plan serves (hall ws s.homes (set s.views j w))
-  moved s o j v w ws me same told long others up low pays = shifted s o j v w ws me same
-      (record { tolds = o.tolds; others = λ h ne. refl; mine = λ pos. told ∙ (o.named j v me pos).told; inside = λ h out. refl; words = λ h pos lane. others h pos ∙ o.left h pos lane })
+  moved s o j v w ws me same still long others up low pays = shifted s o j v w ws me same
+      (record { tolds = o.tolds; notes = o.notes; sights = o.sights; others = λ h ne. (refl, refl, refl); mine = λ pos. let t = o.named j v me pos in (still.told ∙ t.told, still.notes ∙ t.notes_are, t.sight ∙ sym (λ i. (still.looked i, still.seen i))); inside = λ h out. (refl, refl); noted = o.noted; words = λ h pos lane. others h pos ∙ o.left h pos lane })
       long (λ i. others (i + 9) (omega arith)) up low pays
 
   abbrev Goes : St → ℕ → ℕ → Me (Option S) View → (ℕ → Me (Option S) View → Type 0) → ℕ → Type 0
@@ -186,17 +196,33 @@ module _ {S : Type 0} (fits : ℕ → List Item → S → Type 0) (cap : ℕ →
   exchanged n old new F hit miss = dite (ℕ_discrete n old) (λ e. subst (λ b. F (either b new n)) (sym (eq-eqb n old e)) (hit e)) (λ ne. subst (λ b. F (either b new n)) (sym (ne_eqb n old ne)) (miss ne))
 
   -- a step that leaves its word
-  looked : (s : St) (o : Orderly fits cap plan serves s) (i j : ℕ) (v w : View) → get_elem? s.views j ≡ some v → Same v w → w.told ≡ v.told → w.low ≡ v.low → w.budget ≡ v.budget
+  looked : (s : St) (o : Orderly fits cap plan serves s) (i j : ℕ) (v w : View) → get_elem? s.views j ≡ some v → Same v w → Still v w → w.low ≡ v.low → w.budget ≡ v.budget
       → Orderly fits cap plan serves (hall (set s.words i (get_or s.words i 0)) s.homes (set s.views j w))
-  looked s o i j v w me same told low budget = let e = set-get_or s.words i 0 in let at : (x : ℕ) → get_or (set s.words i (get_or s.words i 0)) x 0 ≡ get_or s.words x 0 = λ x. ap (λ (ws : List ℕ). get_or ws x 0) e in
-      moved s o j v w (set s.words i (get_or s.words i 0)) me same told (length-set s.words i (get_or s.words i 0)) (λ x pos. at x) (omega (arith, at 0)) (omega (arith, at 0, o.low j v me)) (omega (arith, at 0))
-
-  pub peeks : (n id : ℕ) (m : Me (Option S) View) (i k : ℕ) → k ≡ i + 9 → i < n → Allows (Orderly fits cap plan serves) n id m k (λ y. y) (peeked (step n k 0 0 none) m)
-  peeks n id m i k is inside s o wide me _ = let w : View = looking m.0 (k - 9) (get_or s.words k 0) in
-      (w, keeps, tt, looked s o k id m.0 w me (record { holder = refl; at = refl; word = refl; log = refl; items = refl; todo = refl; desks = refl }) refl refl refl, refl)
+  looked s o i j v w me same still low budget = let e = set-get_or s.words i 0 in let at : (x : ℕ) → get_or (set s.words i (get_or s.words i 0)) x 0 ≡ get_or s.words x 0 = λ x. ap (λ (ws : List ℕ). get_or ws x 0) e in
+      moved s o j v w (set s.words i (get_or s.words i 0)) me same still (length-set s.words i (get_or s.words i 0)) (λ x pos. at x) (omega (arith, at 0)) (omega (arith, at 0, o.low j v me)) (omega (arith, at 0))
 
   pub aims : (n id : ℕ) (m : Me (Option S) View) (i : ℕ) → Allows (Orderly fits cap plan serves) n id m i (λ y. y) (aimed (step n i 0 0 none) m)
-  aims n id m i s o wide me _ = let w : View = record m.0 { aim = i } in (w, keeps, tt, looked s o i id m.0 w me (record { holder = refl; at = refl; word = refl; log = refl; items = refl; todo = refl; desks = refl }) refl refl refl, refl)
+  aims n id m i s o wide me _ = let w : View = record m.0 { aim = i } in (w, keeps, tt, looked s o i id m.0 w me (record { holder = refl; at = refl; word = refl; log = refl; items = refl; todo = refl; locks = refl; desks = refl }) (record { told = refl; notes = refl; looked = refl; seen = refl }) refl refl, refl)
+
+  -- a seat's notes and what it has seen change
+  sighted : (s : St) (o : Orderly fits cap plan serves s) (i j : ℕ) (v w : View) (notes : List Note) → get_elem? s.views j ≡ some v → 0 < v.holder → Same v w → w.told ≡ v.told → w.low ≡ v.low → w.budget ≡ v.budget → w.notes ≡ notes
+      → Noted (length s.homes) (word_of s.words) o.holders (λ i. counts i o.lanes) o.locks (put o.notes v.holder notes) (put o.sights v.holder (w.looked, w.seen))
+      → Orderly fits cap plan serves (hall (set s.words i (get_or s.words i 0)) s.homes (set s.views j w))
+  sighted s o i j v w notes me pos same told low budget noted noting =
+      let h : ℕ = v.holder in
+      let name = o.named j v me pos in
+      let ws : List ℕ = set s.words i (get_or s.words i 0) in
+      let at : (x : ℕ) → get_or ws x 0 ≡ get_or s.words x 0 = λ x. ap (λ (l : List ℕ). get_or l x 0) (set-get_or s.words i 0) in
+      shifted s o j v w ws me same (record {
+        tolds = o.tolds;
+        notes = put o.notes h notes;
+        sights = put o.sights h (w.looked, w.seen);
+        others = λ x ne. (refl, put-other o.notes h x notes ne, put-other o.sights h x (w.looked, w.seen) ne);
+        mine = λ _. (told ∙ name.told, noted ∙ sym (put-same o.notes h notes), put-same o.sights h (w.looked, w.seen));
+        inside = λ x out. (refl, put-other o.notes h x notes (λ z. omega (arith, out, name.out, ap (λ (q : ℕ). (desk_at o.desks q).out) z)));
+        noted = noting;
+        words = λ x p q. at x ∙ o.left x p q;
+      }) (length-set s.words i (get_or s.words i 0)) (λ x. at (x + 9)) (omega (arith, at 0)) (omega (arith, at 0, low, o.low j v me)) (omega (arith, at 0, budget))
 
   pub raises : (n id : ℕ) (m : Me (Option S) View) (i k : ℕ) → m.0.at ≡ i + 1 → ((t : ℕ) → Below t m.0.log → k ≤ t) → Allows (Orderly fits cap plan serves) n id m 0 (λ y. max y k) (raised (step n 0 k 0 none) m)
   raises n id m i k at top s o wide me _ = let w : View = record m.0 { low = k } in let t : ℕ = get_or s.words 0 0 in
@@ -205,7 +231,7 @@ module _ {S : Type 0} (fits : ℕ → List Item → S → Type 0) (cap : ℕ →
         w,
         keeps,
         tt,
-        moved s o id m.0 w (set s.words 0 (max t k)) me (record { holder = refl; at = refl; word = refl; log = refl; items = refl; todo = refl; desks = refl }) refl (length-set s.words 0 (max t k))
+        moved s o id m.0 w (set s.words 0 (max t k)) me (record { holder = refl; at = refl; word = refl; log = refl; items = refl; todo = refl; locks = refl; desks = refl }) (record { told = refl; notes = refl; looked = refl; seen = refl }) (length-set s.words 0 (max t k))
             (λ x pos. get_or-set_other s.words 0 x (max t k) 0 (λ e. omega arith)) (omega arith) (omega arith) (omega arith),
         refl,
       )
@@ -217,7 +243,7 @@ module _ {S : Type 0} (fits : ℕ → List Item → S → Type 0) (cap : ℕ →
         w,
         keeps,
         tt,
-        moved s o id m.0 w (set s.words 0 new) me (record { holder = refl; at = refl; word = refl; log = refl; items = refl; todo = refl; desks = refl }) refl (length-set s.words 0 new)
+        moved s o id m.0 w (set s.words 0 new) me (record { holder = refl; at = refl; word = refl; log = refl; items = refl; todo = refl; locks = refl; desks = refl }) (record { told = refl; notes = refl; looked = refl; seen = refl }) (length-set s.words 0 new)
             (λ x pos. get_or-set_other s.words 0 x new 0 (λ e. omega arith)) (omega arith) (omega arith) (omega arith),
         (refl, o.low id m.0 me, (λ pos. subst (Below t) (sym (o.named id m.0 me pos).items) (o.below m.0.holder)), λ i at. subst (Below t) (sym (o.held id m.0 me i at).log) (o.logged i)),
       )
@@ -240,12 +266,15 @@ module _ {S : Type 0} (fits : ℕ → List Item → S → Type 0) (cap : ℕ →
         w,
         keeps,
         tt,
-        shifted s o id m.0 w ws me (record { holder = refl; at = refl; word = refl; log = refl; items = refl; todo = refl; desks = refl })
+        shifted s o id m.0 w ws me (record { holder = refl; at = refl; word = refl; log = refl; items = refl; todo = refl; locks = refl; desks = refl })
             (record {
               tolds = tolds;
-              others = λ x ne. put-other o.tolds h x 1 (λ z. ne (z ∙ sym mine));
-              mine = λ _. sym (ap tolds mine ∙ put-same o.tolds h 1);
-              inside = λ x out. put-other o.tolds h x 1 (λ z. omega (arith, out, name.out, ap (λ (q : ℕ). (desk_at o.desks q).out) (z ∙ sym mine)));
+              notes = o.notes;
+              sights = o.sights;
+              noted = o.noted;
+              others = λ x ne. (put-other o.tolds h x 1 (λ z. ne (z ∙ sym mine)), refl, refl);
+              mine = λ _. (sym (ap tolds mine ∙ put-same o.tolds h 1), name.notes_are, name.sight);
+              inside = λ x out. (put-other o.tolds h x 1 (λ z. omega (arith, out, name.out, ap (λ (q : ℕ). (desk_at o.desks q).out) (z ∙ sym mine))), refl);
               words = λ x p q. put-all (λ (a : ℕ) (b : ℕ). a < 9 → 0 < a → get_or ws a 0 ≡ counted b (length (o.lanes a))) o.tolds h 1 x (λ _ _. here ∙ all) (λ ne lane pos. get_or-set_other s.words h x new 0 ne ∙ o.left x pos lane) q p;
             })
             (length-set s.words h new) (λ i. get_or-set_other s.words h (i + 9) new 0 (λ e. omega arith)) (omega (arith, ticket)) (omega (arith, ticket, o.low id m.0 me)) (omega (arith, ticket)),
@@ -256,6 +285,39 @@ module _ {S : Type 0} (fits : ℕ → List Item → S → Type 0) (cap : ℕ →
   holder_small : (s : St) (o : Orderly fits cap plan serves s) (i : ℕ) → i < length s.homes → o.holders i < 10
   holder_small s o i h = dite (ℕ_discrete (o.holders i) 0) (λ e. omega arith) (λ ne. let t = o.taken i h ne in let x = o.held (o.seats (o.holders i)) t.1.0 t.1.1 i t.1.2 in
       let y = o.named (o.seats (o.holders i)) t.1.0 t.1.1 x.some_holder in omega (arith, x.holder, y.inside))
+
+  -- kind 3: the word of a shelf is loaded
+  pub peeks : (n id : ℕ) (m : Me (Option S) View) (i k : ℕ) → k ≡ i + 9 → i < n → 0 < m.0.holder → Allows (Orderly fits cap plan serves) n id m k (λ y. y) (peeked (step n k 0 0 none) m)
+  peeks n id m i k is inside has s o wide me _ =
+      let w : View = looking m.0 (k - 9) (get_or s.words k 0) in
+      let near : i < length s.homes = omega arith in
+      let name = o.named id m.0 me has in
+      let past : Past (word_of s.words i) (counts i o.lanes) = record { holder = o.holders i; before = counts i o.lanes; is = o.shown i near; small = omega (arith, holder_small s o i near); le = above_itself (counts i o.lanes); long = refl } in
+      let at : k - 9 ≡ i = omega arith in
+      let seen = after_load (length s.homes) (word_of s.words) o.holders (λ i. counts i o.lanes) o.locks o.notes o.sights o.noted m.0.holder i past in
+      let same : put o.sights m.0.holder (i + 1, word_of s.words i) ≡ put o.sights m.0.holder (w.looked, w.seen) = ap₂ (λ (a b : ℕ). put o.sights m.0.holder (a + 1, get_or s.words b 0)) (sym at) (sym is) in
+      let kept : o.notes ≡ put o.notes m.0.holder m.0.notes = λ j x. (put-all (λ (a : ℕ) (z : List Note). o.notes a ≡ z) o.notes m.0.holder m.0.notes x (sym name.notes_are) (λ _. refl)) j in (
+        w,
+        keeps,
+        tt,
+        sighted s o k id m.0 w m.0.notes me has (record { holder = refl; at = refl; word = refl; log = refl; items = refl; todo = refl; locks = refl; desks = refl }) refl refl refl refl
+            (subst (λ (z : ℕ → ℕ × ℕ). Noted (length s.homes) (word_of s.words) o.holders (λ i. counts i o.lanes) o.locks (put o.notes m.0.holder m.0.notes) z) same
+            (subst (λ (z : ℕ → List Note). Noted (length s.homes) (word_of s.words) o.holders (λ i. counts i o.lanes) o.locks z (put o.sights m.0.holder (i + 1, word_of s.words i))) kept seen)),
+        refl,
+      )
+
+  -- the shelf's word isn't the one expected: a note
+  noteworthy : (s : St) (o : Orderly fits cap plan serves s) (id : ℕ) (v : View) (i seen : ℕ) → i < length s.homes → get_elem? s.views id ≡ some v → 0 < v.holder → v.at ≡ 0
+      → Past seen (counts i o.lanes) → word_of s.words i ≢ seen / 16 * 16
+      → IsNote o.locks v.holder (record { shelf = i; seen = seen; read = word_of s.words i })
+  noteworthy s o id v i seen near me pos out past miss = record { after = counts i o.lanes; holder = o.holders i; few = omega (arith, holder_small s o i near); small = small_counts i o.lanes (o.few i); read = o.shown i near; past = past; why = because (o.holders i) refl } where
+    because : (b : ℕ) → o.holders i ≡ b → Why o.locks v.holder i (word_of s.words i) past.before (counts i o.lanes) b
+    because zero e = one_below past.before (counts i o.lanes) past.long past.le (λ q. miss (omega (arith, o.shown i near, e, past.is, past.small, q)))
+    because (suc b) e =
+        let on : o.holders i ≢ 0 = λ z. omega (arith, e, z) in
+        let t = o.taken i near on in
+        let name = o.named id v me pos in
+        ((λ z. let mine : t.1.0 ≡ v = some-injective t.1.0 v (sym t.1.1 ∙ (ap (λ (k : ℕ). get_elem? s.views (o.seats k)) (e ∙ z) ∙ (ap (λ (k : ℕ). get_elem? s.views k) name.seat ∙ me))) in omega (arith, ap (λ (u : View). u.at) mine, t.1.2, out)), subst (λ (k : ℕ). Among i (word_of s.words i) (o.locks k)) e (last_among i (word_of s.words i) (o.locks (o.holders i)) (o.noted.held i near on)))
 
   pub locks : (n id : ℕ) (m : Me (Option S) View) (i k old new : ℕ) (said : maybe.Option (Option S)) → k ≡ i + 9 → i < n → m.0.looked ≡ i + 1 → old ≡ m.0.seen / 16 * 16 → new ≡ old + m.0.holder → 0 < m.0.holder → m.0.at ≡ 0
       → Allows (Orderly fits cap plan serves) n id m k (λ y. either (eqb y old) new y) (locked fits cap (step n k old new said) m)
@@ -280,7 +342,12 @@ module _ {S : Type 0} (fits : ℕ → List Item → S → Type 0) (cap : ℕ →
       let ticket : get_or ws 0 0 ≡ get_or s.words 0 0 = get_or-set_other s.words (i + 9) 0 new 0 (λ e. omega arith) in
       let here : get_or ws (i + 9) 0 ≡ new = get_or-set_same s.words (i + 9) new 0 (omega (arith, o.wide)) in
       let there : (r : ℕ) → r ≢ i → get_or ws (r + 9) 0 ≡ get_or s.words (r + 9) 0 = λ r ne. get_or-set_other s.words (i + 9) (r + 9) new 0 (λ e. ne (omega arith)) in
-      let fitted : (r : ℕ) → r < length hs → r < length s.homes = λ r l. subst (λ (y : ℕ). r < y) long l in (
+      let fitted : (r : ℕ) → r < length hs → r < length s.homes = λ r l. subst (λ (y : ℕ). r < y) long l in
+      let more : List Lock = o.locks h ++ record { shelf = i; word = new } ∷ [] in
+      let idle-now : (r : ℕ) → r < length s.homes → o.holders r ≢ h = λ r l e. let t = o.taken r l (λ z. omega (arith, e, z, has)) in
+      let mine : t.1.0 ≡ m.0 = some-injective t.1.0 m.0 (sym t.1.1 ∙ (ap (λ (y : ℕ). get_elem? s.views (o.seats y)) e ∙ (ap (λ (y : ℕ). get_elem? s.views y) name.seat ∙ me))) in omega (arith, ap (λ (y : View). y.at) mine, t.1.2, out) in
+      let agrees : (r : ℕ) → r < length hs → put (word_of s.words) i new r ≡ get_or ws (r + 9) 0 = λ r _. put-all (λ (y z : ℕ). z ≡ get_or ws (y + 9) 0) (word_of s.words) i new r (sym here) (λ ne. sym (there r ne)) in
+      let apart : (j : ℕ) (u : View) → j ≢ id → get_elem? s.views j ≡ some u → 0 < u.holder → u.holder ≢ h = λ j u ne at pos z. ne (sym (o.named j u at pos).seat ∙ (ap o.seats z ∙ name.seat)) in (
         w,
         takes i (Some x),
         home.1,
@@ -294,6 +361,15 @@ module _ {S : Type 0} (fits : ℕ → List Item → S → Type 0) (cap : ℕ →
           lies = o.lies;
           known = o.known;
           logs = o.logs;
+          locks = put o.locks h more;
+          notes = o.notes;
+          sights = put o.sights h (0, 0);
+          noted = subst (λ (z : ℕ). Noted z (word_of ws) holders (λ i. counts i o.lanes) (put o.locks h more) o.notes (put o.sights h (0, 0))) (sym long)
+              (noted_same (length s.homes) (put (word_of s.words) i new) (word_of ws) holders (λ i. counts i o.lanes) (λ i. counts i o.lanes) (put o.locks h more) o.notes (put o.sights h (0, 0)) (λ r l. agrees r (subst (λ (y : ℕ). r < y) (sym long) l)) (λ r l. refl)
+              (after_lock (length s.homes) (word_of s.words) o.holders (λ i. counts i o.lanes) o.locks o.notes o.sights o.noted h i new idle-now));
+          outdated = subst (λ (z : ℕ). Outdated z (word_of ws) holders (put o.locks h more)) (sym long)
+              (outdated_same (length s.homes) (put (word_of s.words) i new) (word_of ws) holders (put o.locks h more) (λ r l. agrees r (subst (λ (y : ℕ). r < y) (sym long) l))
+              (outdated_lock (length s.homes) (word_of s.words) o.holders o.locks o.outdated h i new none-yet (omega (arith, was, name.inside))));
           holders = holders;
           seats = o.seats;
           desks = o.desks;
@@ -318,8 +394,10 @@ module _ {S : Type 0} (fits : ℕ → List Item → S → Type 0) (cap : ℕ →
               (λ r e. let same : i ≡ r = omega arith in subst (λ (y : ℕ). Holds (length hs) ws holders o.logs w y) same (record { inside = omega arith; holder = put-same o.holders i h; some_holder = has; word = sym here; log = refl }))
               (λ j u ne at r e. let t = o.held j u at r e in let apart : r ≢ i = λ z. omega (arith, t.holder, t.some_holder, ap o.holders z) in
               record { inside = omega (arith, t.inside); holder = put-other o.holders i r h apart ∙ t.holder; some_holder = t.some_holder; word = t.word ∙ sym (there r apart); log = t.log });
-          named = each (λ j u. 0 < u.holder → Named o.seats o.lanes o.todos o.tolds o.desks j u) s.views id w (λ _. record { inside = name.inside; seat = name.seat; items = name.items; todo = name.todo; told = name.told; out = name.out }) (λ j u ne at pos. o.named j u at pos);
-          kept = o.kept;
+          named = each (λ j u. 0 < u.holder → Named o.seats o.lanes o.todos o.tolds (put o.locks h more) o.notes (put o.sights h (0, 0)) o.desks j u) s.views id w
+              (λ _. record { inside = name.inside; seat = name.seat; items = name.items; todo = name.todo; told = name.told; locks_are = ap (λ (l : List Lock). l ++ record { shelf = i; word = new } ∷ []) name.locks_are ∙ sym (put-same o.locks h more); notes_are = name.notes_are; sight = put-same o.sights h (0, 0); out = name.out })
+              (λ j u ne at pos. let t = o.named j u at pos in record { inside = t.inside; seat = t.seat; items = t.items; todo = t.todo; told = t.told; locks_are = t.locks_are ∙ sym (put-other o.locks h u.holder more (apart j u ne at pos)); notes_are = t.notes_are; sight = put-other o.sights h u.holder (0, 0) (apart j u ne at pos) ∙ t.sight; out = t.out });
+          kept = λ y none-out. let t = o.kept y none-out in (t.0, t.1, t.2, t.3 ∙ sym (put-other o.locks h y more (λ z. omega (arith, name.out, none-out, ap (λ (q : ℕ). (desk_at o.desks q).out) z))), t.4);
           left = λ y pos lane. get_or-set_other s.words (i + 9) y new 0 (λ e. omega arith) ∙ o.left y pos lane;
           bound = omega (arith, o.bound, total-set purse s.views id m.0 w me);
           low = each (λ j u. u.low ≤ get_or ws 0 0) s.views id w (omega (arith, o.low id m.0 me)) (λ j u ne at. omega (arith, o.low j u at));
@@ -339,7 +417,22 @@ module _ {S : Type 0} (fits : ℕ → List Item → S → Type 0) (cap : ℕ →
         ),
       ))
       (λ miss. let w : View = noting m.0 (get_or s.words k 0) in
-      (w, keeps, tt, looked s o k id m.0 w me (record { holder = refl; at = refl; word = refl; log = refl; items = refl; todo = refl; desks = refl }) refl refl refl, ((λ hit. absurd (miss hit)), λ _. refl)))
+      let near : i < length s.homes = omega arith in
+      let name = o.named id m.0 me has in
+      let seen = o.noted.saw m.0.holder i near (ap (λ (p : ℕ × ℕ). p.0) name.sight ∙ faced) in
+      let read : word_of s.words i ≡ get_or s.words k 0 = ap (λ (x : ℕ). get_or s.words x 0) (sym is) in
+      let note = noteworthy s o id m.0 i m.0.seen near me has out (subst (λ (z : ℕ × ℕ). Past z.1 (counts i o.lanes)) name.sight seen) (λ z. miss (sym read ∙ (z ∙ sym even))) in
+      let x : Note = record { shelf = m.0.looked - 1; seen = m.0.seen; read = get_or s.words k 0 } in
+      let shelf : i ≡ m.0.looked - 1 = omega arith in
+      let told : IsNote o.locks m.0.holder x = subst (λ (z : Note). IsNote o.locks m.0.holder z) (λ j. record { shelf = shelf j; seen = m.0.seen; read = read j }) note in (
+        w,
+        keeps,
+        tt,
+        sighted s o k id m.0 w (m.0.notes ++ x ∷ []) me has (record { holder = refl; at = refl; word = refl; log = refl; items = refl; todo = refl; locks = refl; desks = refl }) refl refl refl refl
+            (subst (λ (z : List Note). Noted (length s.homes) (word_of s.words) o.holders (λ i. counts i o.lanes) o.locks (put o.notes m.0.holder (z ++ x ∷ [])) (put o.sights m.0.holder (0, 0))) (sym name.notes_are)
+            (after_busy (length s.homes) (word_of s.words) o.holders (λ i. counts i o.lanes) o.locks o.notes o.sights o.noted m.0.holder x told)),
+        ((λ hit. absurd (miss hit)), λ _. refl),
+      ))
 
   -- the same with one view more
   each_more : (P : ℕ → View → Type 0) (vs : List View) (j : ℕ) (w x : View) → P j w → P (length vs) x → ((k : ℕ) (u : View) → k ≢ j → get_elem? vs k ≡ some u → P k u)
@@ -385,6 +478,11 @@ module _ {S : Type 0} (fits : ℕ → List Item → S → Type 0) (cap : ℕ →
         logs = o.logs;
         holders = o.holders;
         seats = seats;
+        locks = o.locks;
+        notes = o.notes;
+        sights = put o.sights h (0, 0);
+        noted = after_split (length s.homes) (word_of s.words) o.holders (λ i. counts i o.lanes) o.locks o.notes o.sights o.noted h;
+        outdated = o.outdated;
         desks = ds;
         lead = (left, at_longer (set s.views id left) (right ∷ []) 0 left (ap (λ (x : ℕ). get_elem? (set s.views id left) x) (sym zeroth) ∙ set_here s.views id left (some_length s.views id v me)), lead.0, lead.1, refl);
         ten = length-set v.desks h (desk 1 1 0 [] [] 0 [] []) ∙ ten;
@@ -402,11 +500,11 @@ module _ {S : Type 0} (fits : ℕ → List Item → S → Type 0) (cap : ℕ →
               ),
             );
         held = each_more (λ k u. (i : ℕ) → u.at ≡ i + 1 → Holds (length s.homes) s.words o.holders o.logs u i) s.views id left right (λ i e. absurd (omega arith)) (λ i e. absurd (omega arith)) (λ k u ne e. o.held k u e);
-        named = each_more (λ k u. 0 < u.holder → Named seats o.lanes o.todos o.tolds ds k u) s.views id left right (λ on. absurd (omega arith))
-            (λ _. record { inside = small; seat = put-same o.seats h (length s.views); items = ap (λ (l : List Desk). (desk_at l h).items) lead.2 ∙ was.0; todo = ap (λ (l : List Desk). (desk_at l h).todo) lead.2 ∙ was.1; told = ap (λ (l : List Desk). (desk_at l h).told) lead.2 ∙ was.2; out = ap (λ (x : Desk). x.out) here })
-            (λ k u ne e on. let p = o.named k u e on in let apart = not-out u.holder p.out in record { inside = p.inside; seat = put-other o.seats h u.holder (length s.views) apart ∙ p.seat; items = p.items; todo = p.todo; told = p.told; out = ap (λ (x : Desk). x.out) (there u.holder apart) ∙ p.out });
+        named = each_more (λ k u. 0 < u.holder → Named seats o.lanes o.todos o.tolds o.locks o.notes (put o.sights h (0, 0)) ds k u) s.views id left right (λ on. absurd (omega arith))
+            (λ _. record { inside = small; seat = put-same o.seats h (length s.views); items = ap (λ (l : List Desk). (desk_at l h).items) lead.2 ∙ was.0; todo = ap (λ (l : List Desk). (desk_at l h).todo) lead.2 ∙ was.1; told = ap (λ (l : List Desk). (desk_at l h).told) lead.2 ∙ was.2; locks_are = ap (λ (l : List Desk). (desk_at l h).locks) lead.2 ∙ was.3; notes_are = ap (λ (l : List Desk). (desk_at l h).notes) lead.2 ∙ was.4; sight = put-same o.sights h (0, 0); out = ap (λ (x : Desk). x.out) here })
+            (λ k u ne e on. let p = o.named k u e on in let apart = not-out u.holder p.out in record { inside = p.inside; seat = put-other o.seats h u.holder (length s.views) apart ∙ p.seat; items = p.items; todo = p.todo; told = p.told; locks_are = p.locks_are; notes_are = p.notes_are; sight = put-other o.sights h u.holder (0, 0) apart ∙ p.sight; out = ap (λ (x : Desk). x.out) (there u.holder apart) ∙ p.out });
         kept = λ x none-out. dite (ℕ_discrete x h) (λ e. absurd (omega (arith, none-out, ap (λ (k : ℕ). (desk_at ds k).out) e, ap (λ (y : Desk). y.out) here)))
-            (λ ne. let k = o.kept x (ap (λ (y : Desk). y.out) (sym (there x ne)) ∙ none-out) in (ap (λ (y : Desk). y.items) (there x ne) ∙ k.0, ap (λ (y : Desk). y.todo) (there x ne) ∙ k.1, ap (λ (y : Desk). y.told) (there x ne) ∙ k.2));
+            (λ ne. let k = o.kept x (ap (λ (y : Desk). y.out) (sym (there x ne)) ∙ none-out) in (ap (λ (y : Desk). y.items) (there x ne) ∙ k.0, ap (λ (y : Desk). y.todo) (there x ne) ∙ k.1, ap (λ (y : Desk). y.told) (there x ne) ∙ k.2, ap (λ (y : Desk). y.locks) (there x ne) ∙ k.3, ap (λ (y : Desk). y.notes) (there x ne) ∙ k.4));
         left = o.left;
         bound = omega (arith, o.bound, total-append purse (set s.views id left) (right ∷ []), total-set purse s.views id v left me, total-set (λ (x : Desk). x.budget) v.desks h d (desk 1 1 0 [] [] 0 [] []) (at_get v.desks h no_desk (omega arith)));
         low = each_more (λ k u. u.low ≤ get_or s.words 0 0) s.views id left right (o.low id v me) (omega arith) (λ k u ne e. o.low k u e);
@@ -448,6 +546,11 @@ module _ {S : Type 0} (fits : ℕ → List Item → S → Type 0) (cap : ℕ →
         logs = o.logs;
         holders = o.holders;
         seats = o.seats;
+        locks = o.locks;
+        notes = o.notes;
+        sights = o.sights;
+        noted = o.noted;
+        outdated = o.outdated;
         desks = ds;
         lead = (left, set_else (set s.views id left) other 0 spent (λ e. apart (sym e ∙ sym zeroth)) ∙ (ap (λ (x : ℕ). get_elem? (set s.views id left) x) (sym zeroth) ∙ set_here s.views id left (some_length s.views id v me)), lead.0, lead.1, refl);
         ten = length-set v.desks h now ∙ ten;
@@ -464,10 +567,10 @@ module _ {S : Type 0} (fits : ℕ → List Item → S → Type 0) (cap : ℕ →
           ),
         );
         held = both (λ k u. (i : ℕ) → u.at ≡ i + 1 → Holds (length s.homes) s.words o.holders o.logs u i) (λ i e. absurd (omega arith)) (λ i e. absurd (omega arith)) (λ k u _ _ e. o.held k u e);
-        named = both (λ k u. 0 < u.holder → Named o.seats o.lanes o.todos o.tolds ds k u) (λ on. absurd (omega arith)) (λ on. absurd (omega arith))
-            (λ k u _ ne e on. let p = o.named k u e on in record { inside = p.inside; seat = p.seat; items = p.items; todo = p.todo; told = p.told; out = ap (λ (x : Desk). x.out) (there u.holder (λ z. ne (sym p.seat ∙ (ap o.seats z ∙ name.seat)))) ∙ p.out });
-        kept = λ x none-out. dite (ℕ_discrete x h) (λ e. subst (λ (k : ℕ). ((desk_at ds k).items ≡ o.lanes k) × ((desk_at ds k).todo ≡ o.todos k) × ((desk_at ds k).told ≡ o.tolds k)) (sym e) (ap (λ (y : Desk). y.items) here ∙ name.items, ap (λ (y : Desk). y.todo) here ∙ name.todo, ap (λ (y : Desk). y.told) here ∙ name.told))
-            (λ ne. let k = o.kept x (ap (λ (y : Desk). y.out) (sym (there x ne)) ∙ none-out) in (ap (λ (y : Desk). y.items) (there x ne) ∙ k.0, ap (λ (y : Desk). y.todo) (there x ne) ∙ k.1, ap (λ (y : Desk). y.told) (there x ne) ∙ k.2));
+        named = both (λ k u. 0 < u.holder → Named o.seats o.lanes o.todos o.tolds o.locks o.notes o.sights ds k u) (λ on. absurd (omega arith)) (λ on. absurd (omega arith))
+            (λ k u _ ne e on. let p = o.named k u e on in record { inside = p.inside; seat = p.seat; items = p.items; todo = p.todo; told = p.told; locks_are = p.locks_are; notes_are = p.notes_are; sight = p.sight; out = ap (λ (x : Desk). x.out) (there u.holder (λ z. ne (sym p.seat ∙ (ap o.seats z ∙ name.seat)))) ∙ p.out });
+        kept = λ x none-out. dite (ℕ_discrete x h) (λ e. subst (λ (k : ℕ). ((desk_at ds k).items ≡ o.lanes k) × ((desk_at ds k).todo ≡ o.todos k) × ((desk_at ds k).told ≡ o.tolds k) × ((desk_at ds k).locks ≡ o.locks k) × ((desk_at ds k).notes ≡ o.notes k)) (sym e) (ap (λ (y : Desk). y.items) here ∙ name.items, ap (λ (y : Desk). y.todo) here ∙ name.todo, ap (λ (y : Desk). y.told) here ∙ name.told, ap (λ (y : Desk). y.locks) here ∙ name.locks_are, ap (λ (y : Desk). y.notes) here ∙ name.notes_are))
+            (λ ne. let k = o.kept x (ap (λ (y : Desk). y.out) (sym (there x ne)) ∙ none-out) in (ap (λ (y : Desk). y.items) (there x ne) ∙ k.0, ap (λ (y : Desk). y.todo) (there x ne) ∙ k.1, ap (λ (y : Desk). y.told) (there x ne) ∙ k.2, ap (λ (y : Desk). y.locks) (there x ne) ∙ k.3, ap (λ (y : Desk). y.notes) (there x ne) ∙ k.4));
         left = o.left;
         bound = omega (arith, o.bound, total-set purse (set s.views id left) other w spent at, total-set purse s.views id v left me, total-set (λ (x : Desk). x.budget) v.desks h (desk_of v h) now (at_get v.desks h no_desk (omega arith)));
         low = both (λ k u. u.low ≤ get_or s.words 0 0) (o.low id v me) (omega arith) (λ k u _ _ e. o.low k u e);
@@ -491,9 +594,9 @@ module _ {S : Type 0} (fits : ℕ → List Item → S → Type 0) (cap : ℕ →
       → Below (get_or s.words 0 0) items → Below (get_or s.words 0 0) log → Rises log
       → ((h : ℕ) → by h log ≡ in_shelf i (put o.lanes v.holder items h)) → (v.holder < 9 → length (in_shelf i items) < 128)
       → length (entries_of log) + times i todo ≤ length (entries_of v.log) + times i v.todo → ((r : ℕ) → r ≢ i → times r todo ≤ times r v.todo) → (v.holder < 9 → shelves items ++ todo ≡ shelves v.items ++ v.todo) → (v.holder < 9 → counted v.told (length items) ≡ counted v.told (length v.items))
-      → AllFrom (serves v.holder) 0 items → (turn : List Item) → Ordered turn → ((h : ℕ) → by h turn ≡ put o.lanes v.holder items h) → ((r : ℕ) → in_shelf r turn ≡ put o.logs i log r) → Known turn
+      → AllFrom (serves v.holder) 0 items → length (in_shelf i (o.lanes v.holder)) ≤ length (in_shelf i items) → (v.holder < 9 → length (in_shelf i (o.lanes v.holder)) < length (in_shelf i items)) → (turn : List Item) → Ordered turn → ((h : ℕ) → by h turn ≡ put o.lanes v.holder items h) → ((r : ℕ) → in_shelf r turn ≡ put o.logs i log r) → Known turn
       → Orderly fits cap plan serves (hall (set s.words (i + 9) new) (set s.homes i (some (Some x))) (set s.views id (releasing v items todo)))
-  back s o id v i new x items log todo me at is fit others below₁ below₂ rise part few room₁ room₂ planned stays done turn ordered whose lies known =
+  back s o id v i new x items log todo me at is fit others below₁ below₂ rise part few room₁ room₂ planned stays done grow one turn ordered whose lies known =
       let h : ℕ = v.holder in
       let has = o.held id v me i at in
       let near : i < length s.homes = has.inside in
@@ -511,7 +614,15 @@ module _ {S : Type 0} (fits : ℕ → List Item → S → Type 0) (cap : ℕ →
       let here : get_or ws (i + 9) 0 ≡ new = get_or-set_same s.words (i + 9) new 0 (omega (arith, o.wide)) in
       let there : (r : ℕ) → r ≢ i → get_or ws (r + 9) 0 ≡ get_or s.words (r + 9) 0 = λ r ne. get_or-set_other s.words (i + 9) (r + 9) new 0 (λ e. ne (omega arith)) in
       let fitted : (r : ℕ) → r < length hs → r < length s.homes = λ r l. subst (λ (y : ℕ). r < y) long l in
+      let agrees : (r : ℕ) → put (word_of s.words) i new r ≡ get_or ws (r + 9) 0 = λ r. put-all (λ (y z : ℕ). z ≡ get_or ws (y + 9) 0) (word_of s.words) i new r (sym here) (λ ne. sym (there r ne)) in
       let same_in : (r : ℕ) → r ≢ i → (y : ℕ) → in_shelf r (lanes y) ≡ in_shelf r (o.lanes y) = λ r ne y. put-all (λ (k : ℕ) (z : List Item). in_shelf r z ≡ in_shelf r (o.lanes k)) o.lanes h items y (others r ne) (λ _. refl) in
+      let grown : (y : ℕ) → count i o.lanes y ≤ count i lanes y = λ y. put-all (λ (k : ℕ) (z : List Item). count i o.lanes k ≤ length (in_shelf i z)) o.lanes h items y grow (λ _. omega arith) in
+      let rising : NoneAbove (counts i o.lanes) (counts i lanes) = counts_grow i o.lanes lanes grown in
+      let under : (y : ℕ) → y < 9 → count i lanes y < 128 = λ y. put-all (λ (k : ℕ) (z : List Item). k < 9 → length (in_shelf i z) < 128) o.lanes h items y few (λ _. o.few i y) in
+      let before : (k : ℕ) → digit (word_of s.words i / 16) k ≡ get_or (counts i o.lanes) k 0 = λ k. ap (λ (z : ℕ). digit (z / 16) k) (o.shown i near) ∙ digit_of (o.holders i) k (counts i o.lanes) (omega (arith, holder_small s o i near)) (small_counts i o.lanes (o.few i)) in
+      let after : (k : ℕ) → digit (new / 16) k ≡ get_or (counts i lanes) k 0 = λ k. ap (λ (z : ℕ). digit (z / 16) k) is ∙ digit_of 0 k (counts i lanes) (omega arith) (small_counts i lanes under) in
+      let strict : o.holders i < 9 → digit (word_of s.words i / 16) (o.holders i - 1) < digit (new / 16) (o.holders i - 1) = λ lane. subst (λ (z : ℕ). digit (word_of s.words i / 16) (z - 1) < digit (new / 16) (z - 1)) (sym has.holder)
+      (let l : h < 9 = omega (arith, has.holder) in omega (arith, before (h - 1), after (h - 1), counts_at i h o.lanes has.some_holder l, counts_at i h lanes has.some_holder l, one l, ap (λ (z : List Item). length (in_shelf i z)) (put-same o.lanes h items))) in
       -- no other seat has this shelf
       let alone : (j : ℕ) (u : View) → j ≢ id → get_elem? s.views j ≡ some u → (r : ℕ) → u.at ≡ r + 1 → r ≢ i = λ j u ne e r q z.
       let t = o.held j u e r q in let p = o.named j u e t.some_holder in ne (sym p.seat ∙ (ap o.seats (sym t.holder ∙ (ap o.holders z ∙ has.holder)) ∙ name.seat)) in
@@ -527,6 +638,15 @@ module _ {S : Type 0} (fits : ℕ → List Item → S → Type 0) (cap : ℕ →
         logs = logs;
         holders = holders;
         seats = o.seats;
+        locks = o.locks;
+        notes = o.notes;
+        sights = o.sights;
+        noted = subst (λ (z : ℕ). Noted z (word_of ws) holders (λ i. counts i lanes) o.locks o.notes o.sights) (sym long)
+            (noted_same (length s.homes) (put (word_of s.words) i new) (word_of ws) holders (put (λ i. counts i o.lanes) i (counts i lanes)) (λ i. counts i lanes) o.locks o.notes o.sights (λ r l. agrees r) (λ r l. put-all (λ (y : ℕ) (z : List ℕ). z ≡ counts y lanes) (λ i. counts i o.lanes) i (counts i lanes) r refl (λ ne. counts_same r o.lanes lanes (λ y. ap length (sym (same_in r ne y)))))
+            (after_release (length s.homes) (word_of s.words) o.holders (λ i. counts i o.lanes) o.locks o.notes o.sights o.noted i new (counts i lanes) rising refl));
+        outdated = subst (λ (z : ℕ). Outdated z (word_of ws) holders o.locks) (sym long)
+            (outdated_same (length s.homes) (put (word_of s.words) i new) (word_of ws) holders o.locks (λ r l. agrees r)
+            (outdated_release (length s.homes) (word_of s.words) o.holders o.locks o.outdated i new (λ k. omega (arith, before k, after k, above_at (counts i o.lanes) (counts i lanes) k rising)) strict));
         desks = o.desks;
         lead = leads s.views o.desks id v w me (λ a b. absurd (omega arith)) o.lead;
         ten = o.ten;
@@ -549,10 +669,10 @@ module _ {S : Type 0} (fits : ℕ → List Item → S → Type 0) (cap : ℕ →
         held = each (λ j u. (r : ℕ) → u.at ≡ r + 1 → Holds (length hs) ws holders logs u r) s.views id w (λ r e. absurd (omega arith))
             (λ j u ne e r q. let t = o.held j u e r q in let apart = alone j u ne e r q in
             record { inside = omega (arith, t.inside); holder = put-other o.holders i r 0 apart ∙ t.holder; some_holder = t.some_holder; word = t.word ∙ sym (there r apart); log = t.log ∙ sym (put-other o.logs i r log apart) });
-        named = each (λ j u. 0 < u.holder → Named o.seats lanes todos o.tolds o.desks j u) s.views id w
-            (λ _. record { inside = name.inside; seat = name.seat; items = sym (put-same o.lanes h items); todo = sym (put-same o.todos h todo); told = name.told; out = name.out })
-            (λ j u ne e pos. let t = o.named j u e pos in record { inside = t.inside; seat = t.seat; items = t.items ∙ sym (put-other o.lanes h u.holder items (λ z. ne (sym t.seat ∙ (ap o.seats z ∙ name.seat)))); todo = t.todo ∙ sym (put-other o.todos h u.holder todo (λ z. ne (sym t.seat ∙ (ap o.seats z ∙ name.seat)))); told = t.told; out = t.out });
-        kept = λ y none-out. let ne : y ≢ h = λ z. omega (arith, name.out, ap (λ (k : ℕ). (desk_at o.desks k).out) z) in let k = o.kept y none-out in (k.0 ∙ sym (put-other o.lanes h y items ne), k.1 ∙ sym (put-other o.todos h y todo ne), k.2);
+        named = each (λ j u. 0 < u.holder → Named o.seats lanes todos o.tolds o.locks o.notes o.sights o.desks j u) s.views id w
+            (λ _. record { inside = name.inside; seat = name.seat; items = sym (put-same o.lanes h items); todo = sym (put-same o.todos h todo); told = name.told; locks_are = name.locks_are; notes_are = name.notes_are; sight = name.sight; out = name.out })
+            (λ j u ne e pos. let t = o.named j u e pos in record { inside = t.inside; seat = t.seat; items = t.items ∙ sym (put-other o.lanes h u.holder items (λ z. ne (sym t.seat ∙ (ap o.seats z ∙ name.seat)))); todo = t.todo ∙ sym (put-other o.todos h u.holder todo (λ z. ne (sym t.seat ∙ (ap o.seats z ∙ name.seat)))); told = t.told; locks_are = t.locks_are; notes_are = t.notes_are; sight = t.sight; out = t.out });
+        kept = λ y none-out. let ne : y ≢ h = λ z. omega (arith, name.out, ap (λ (k : ℕ). (desk_at o.desks k).out) z) in let k = o.kept y none-out in (k.0 ∙ sym (put-other o.lanes h y items ne), k.1 ∙ sym (put-other o.todos h y todo ne), k.2, k.3, k.4);
         left = λ y pos lane. put-all (λ (k : ℕ) (z : List Item). k < 9 → 0 < k → get_or ws k 0 ≡ counted (o.tolds k) (length z)) o.lanes h items y
             (λ lane pos. get_or-set_other s.words (i + 9) h new 0 (λ e. omega arith) ∙ (o.left h pos lane ∙ (ap (λ (z : List Item). counted (o.tolds h) (length z)) (sym name.items) ∙ (ap (λ (k : ℕ). counted k (length v.items)) (sym name.told) ∙ (sym (stays lane) ∙ ap (λ (k : ℕ). counted k (length items)) name.told)))))
             (λ ne lane pos. get_or-set_other s.words (i + 9) y new 0 (λ e. omega arith) ∙ o.left y pos lane) lane pos;
@@ -615,6 +735,7 @@ module _ {S : Type 0} (fits : ℕ → List Item → S → Type 0) (cap : ℕ →
       let log : List Item = v.log ++ x ∷ [] in
       let lanes : ℕ → List Item = put o.lanes h items in
       let ten : x.holder < 10 = omega (arith, name.inside) in
+      let plus : length (in_shelf i items) ≡ length (in_shelf i (o.lanes h)) + 1 = omega (arith, ap length (in_shelf-append i v.items (x ∷ []) ∙ ap (λ (z : List Item). in_shelf i v.items ++ z) (in-one i x here)), length-append (in_shelf i v.items) (x ∷ []), ap (λ (z : List Item). length (in_shelf i z)) name.items) in
       let mine-below : Below x.ticket (by x.holder o.turn) = subst (Below x.ticket) (name.items ∙ (sym (o.whose h) ∙ ap (λ (y : ℕ). by y o.turn) (sym mine))) own in
       let here-below : Below x.ticket (in_shelf x.shelf o.turn) = subst (Below x.ticket) (has.log ∙ (sym (o.lies i) ∙ ap (λ (y : ℕ). in_shelf y o.turn) (sym here))) above in
       let under : x.ticket < t = omega (arith, o.low id v me) in
@@ -631,7 +752,7 @@ module _ {S : Type 0} (fits : ℕ → List Item → S → Type 0) (cap : ℕ →
       fewer
       (λ lane. ap (λ (z : List ℕ). z ++ todo) (shelves-append v.items (x ∷ [])) ∙ (append_assoc (shelves v.items) (x.shelf ∷ []) todo ∙ ap (λ (z : List ℕ). shelves v.items ++ z) (ap (λ (k : ℕ). k ∷ todo) here ∙ sym (next lane))))
       (λ lane. ap (λ (k : ℕ). counted k (length items)) (stays lane) ∙ ap (λ (k : ℕ). counted k (length v.items)) (sym (stays lane)))
-      (AllFrom-append (serves h) v.items x (subst (AllFrom (serves h) 0) (sym name.items) (o.served h)) good)
+      (AllFrom-append (serves h) v.items x (subst (AllFrom (serves h) 0) (sym name.items) (o.served h)) good) (omega (arith, plus)) (λ _. omega (arith, plus))
       (insert x o.turn) (insert-ordered x o.turn o.ordered (ranks-apart x o.turn ten o.known mine-below))
       (λ k. put-all (λ (y : ℕ) (z : List Item). by y (insert x o.turn) ≡ z) o.lanes h items k
       (subst (λ (y : ℕ). by y (insert x o.turn) ≡ items) mine (by-insert x o.turn o.ordered o.known mine-below ∙ ap (λ (z : List Item). z ++ x ∷ []) (ap (λ (y : ℕ). by y o.turn) mine ∙ (o.whose h ∙ sym name.items))))
@@ -707,6 +828,11 @@ module _ {S : Type 0} (fits : ℕ → List Item → S → Type 0) (cap : ℕ →
         logs = λ _. [];
         holders = λ _. 0;
         seats = λ _. 0;
+        locks = λ _. [];
+        notes = λ _. [];
+        sights = λ _. (0, 0);
+        noted = record { held = λ i h on. absurd (on refl); saw = λ h i l e. absurd (omega (arith, e)); are = λ _. tt };
+        outdated = record { lower = λ h i w p q l a. absurd a };
         desks = (opener plan).desks;
         lead = (opener plan, refl, refl, refl, refl);
         ten = refl;
@@ -716,7 +842,7 @@ module _ {S : Type 0} (fits : ℕ → List Item → S → Type 0) (cap : ℕ →
         taken = λ i h no. absurd (no refl);
         held = λ j u e i q. absurd (omega (arith, one (λ z. z.at ≡ 0) refl j u e));
         named = λ j u e on. absurd (omega (arith, one (λ z. z.holder ≡ 0) refl j u e));
-        kept = λ h _. (ten_empty plan h, refl, ten_told plan h);
+        kept = λ h _. let t = ten_bare plan h in (t.0, refl, t.1, t.2, t.3);
         bound = omega (arith, zero-words 0);
         low = λ j u e. omega (arith, one (λ z. z.low ≡ 0) refl j u e);
         below = λ _. tt;
@@ -739,6 +865,8 @@ module _ {S : Type 0} (fits : ℕ → List Item → S → Type 0) (cap : ℕ →
       let none-out : (h : ℕ) → (desk_at o.desks h).out ≡ 0 = λ h. ap (λ (l : List Desk). (desk_at l h).out) (sym lead.2) ∙ in-all h in
       let none-held : (i : ℕ) → i < length s.homes → o.holders i ≡ 0 = λ i h. dite (ℕ_discrete (o.holders i) 0) (λ e. e) (λ ne. let t = o.taken i h ne in let q = o.held (o.seats (o.holders i)) t.1.0 t.1.1 i t.1.2 in
       let p = o.named (o.seats (o.holders i)) t.1.0 t.1.1 q.some_holder in absurd (omega (arith, p.out, none-out t.1.0.holder))) in
+      let locks-mine : (h : ℕ) → o.locks h ≡ (desk_of v h).locks = λ h. let k = o.kept h (none-out h) in sym k.3 ∙ ap (λ (l : List Desk). (desk_at l h).locks) (sym lead.2) in
+      let notes-mine : (h : ℕ) → o.notes h ≡ (desk_of v h).notes = λ h. let k = o.kept h (none-out h) in sym k.4 ∙ ap (λ (l : List Desk). (desk_at l h).notes) (sym lead.2) in
       let mine : (h : ℕ) → o.lanes h ≡ (desk_of v h).items = λ h. let k = o.kept h (none-out h) in sym k.0 ∙ ap (λ (l : List Desk). (desk_at l h).items) (sym lead.2) in
       record {
         turn = o.turn;
@@ -749,6 +877,11 @@ module _ {S : Type 0} (fits : ℕ → List Item → S → Type 0) (cap : ℕ →
         left = λ h p q. let k = o.kept h (none-out h) in ap (λ (z : List ℕ). get_or z h 0) (sym f.2) ∙ (o.left h p q ∙ (ap (λ (z : ℕ). counted z (length (o.lanes h))) (sym k.2) ∙ (ap (λ (z : List Item). counted (desk_at o.desks h).told (length z)) (sym k.0) ∙ ap (λ (l : List Desk). counted (desk_at l h).told (length (desk_at l h).items)) (sym lead.2))));
         planned = λ h p q. let k = o.kept h (none-out h) in ap (λ (l : List Desk). shelves (desk_at l h).items ++ (desk_at l h).todo) lead.2 ∙ (ap (λ (z : List Item). shelves z ++ (desk_at o.desks h).todo) k.0 ∙ (ap (λ (z : List ℕ). shelves (o.lanes h) ++ z) k.1 ∙ o.planned h p q));
         served = λ h. subst (AllFrom (serves h) 0) (mine h) (o.served h);
+        noted = λ h. subst (λ (l : List Note). AllAre (IsBusy (λ k. (desk_of v k).locks) h) l) (notes-mine h) (all_map (IsNote o.locks h) (IsBusy (λ k. (desk_of v k).locks) h) (o.notes h) (λ x is. busy (λ k. (desk_of v k).locks) h x (note_kept o.locks (λ k. (desk_of v k).locks) h x (λ a i w m. subst (Among i w) (locks-mine a) m) is)) (o.noted.are h));
+        few = omega (arith, o.bound, f.2, ap (λ (l : List ℕ). get_or l 0 0) f.2);
+        outdated = λ h i w p q l a. let near : i < length s.homes = omega (arith, f.3, l) in ⊎_elim (λ (t : (w ≡ word_of s.words i) × (o.holders i ≡ h)). absurd (omega (arith, t.1, none-held i near, p)))
+            (λ (t : digit (w / 16) (h - 1) < digit (word_of s.words i / 16) (h - 1)). omega (arith, t, ap (λ (z : ℕ). digit (z / 16) (h - 1)) (o.shown i near), digit_of (o.holders i) (h - 1) (counts i o.lanes) (omega (arith, none-held i near)) (small_counts i o.lanes (o.few i)), counts_at i h o.lanes p q, ap (λ (z : List Item). length (in_shelf i z)) (mine h)))
+            (o.outdated.lower h i w p q near (subst (Among i w) (sym (locks-mine h)) a));
       }
 
   -- the same of the seat's own terms

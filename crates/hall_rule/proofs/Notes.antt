@@ -1,9 +1,10 @@
 -- A busy shelf leaves a note.
-use Rattle.std.proofs.Common.{◌≡◌, ◌≢◌, ℕ, zero, suc, ◌+◌, ◌/◌, ◌-◌, ◌<◌, ◌≤◌, List, [], ◌∷◌, ◌++◌, length, refl, ap, sym, ◌∙◌, subst, arith, inl, inr, ⊎_elim, ◌⊎◌}
+use Rattle.std.proofs.Common.{◌≡◌, ◌≢◌, ℕ, zero, suc, ◌+◌, ◌/◌, ◌%◌, ◌-◌, ◌<◌, ◌≤◌, List, [], ◌∷◌, ◌++◌, length, get_or, refl, ap, sym, ◌∙◌, subst, arith, inl, inr, ⊎_elim, ◌⊎◌}
 use mathlib.Core.Logic.{dite}
 use native.Mathlib.Decide.{ℕ_discrete}
-use Rattle.hall_rule.specs.Words.{pack, count, counts}
-use Rattle.hall_rule.specs.Notes.{NoneAbove, SomeBelow, Among, Past, Why, IsNote, Last, AllAre, Noted, Outdated, digit}
+use Rattle.hall_rule.specs.Words.{Small, pack, word_for, count, counts}
+use Rattle.hall_rule.specs.Notes.{NoneAbove, SomeBelow, Among, Past, Why, IsNote, IsBusy, BusyBy, Last, AllAre, Noted, Outdated, digit}
+use Rattle.hall_rule.proofs.Packs.{digit-pack}
 use Rattle.hall_rule.proofs.Lists.{put, put-same, put-other, put-all}
 use Rattle.hall_rule.specs.declared.item.Item.{Item}
 use Rattle.hall_rule.specs.declared.view.Lock.{Lock}
@@ -34,7 +35,7 @@ past_more w now more p q l = record { holder = p.holder; before = p.before; is =
 
 -- a note stays one while locks are added
 pub note_kept : (locks more : ℕ → List Lock) (h : ℕ) (x : Note) → ((k i w : ℕ) → Among i w (locks k) → Among i w (more k)) → IsNote locks h x → IsNote more h x
-note_kept locks more h x grows is = record { after = is.after; holder = is.holder; read = is.read; past = is.past; why = keep is.holder is.why } where
+note_kept locks more h x grows is = record { after = is.after; holder = is.holder; few = is.few; small = is.small; read = is.read; past = is.past; why = keep is.holder is.why } where
   keep : (b : ℕ) → Why locks h x.shelf x.read is.past.before is.after b → Why more h x.shelf x.read is.past.before is.after b
   keep zero w = w
   keep (suc b) w = (w.0, grows (suc b) x.shelf x.read w.1)
@@ -50,7 +51,7 @@ among_more : (i w : ℕ) (l m : List Lock) → Among i w l → Among i w (l ++ m
 among_more i w [] m a = absurd a
 among_more i w (x ∷ xs) m a = ⊎_elim (λ (t : (x.shelf ≡ i) × (x.word ≡ w)). inl t) (λ (t : Among i w xs). inr (among_more i w xs m t)) a
 
-all_map : (P Q : Note → Type 0) (xs : List Note) → ((x : Note) → P x → Q x) → AllAre P xs → AllAre Q xs
+pub all_map : (P Q : Note → Type 0) (xs : List Note) → ((x : Note) → P x → Q x) → AllAre P xs → AllAre Q xs
 all_map P Q [] f a = tt
 all_map P Q (x ∷ xs) f a = (f x a.0, all_map P Q xs f a.1)
 
@@ -91,6 +92,10 @@ module _ (n : ℕ) (word holders : ℕ → ℕ) (counted : ℕ → List ℕ) (lo
     are = λ k. put-all (λ (a : ℕ) (z : List Note). AllAre (IsNote locks a) z) notes h (notes h ++ x ∷ []) k (all_append (IsNote locks h) (notes h) x (o.are h) is) (λ _. o.are k);
   }
 
+  -- a seat that is new has seen nothing
+  pub after_split : (h : ℕ) → Noted n word holders counted locks notes (put sight h (0, 0))
+  after_split h = record { held = o.held; saw = unseen h; are = o.are }
+
   -- kinds 9 and 10: the shelf i comes back with counts that are no lower
   pub after_release : (i new : ℕ) (more : List ℕ) → NoneAbove (counted i) more → length (counted i) ≡ length more → Noted n (put word i new) (put holders i 0) (put counted i more) locks notes sight
   after_release i new more up long = record {
@@ -108,6 +113,35 @@ noted_same n word word' holders counted counted' locks notes sight a b o = recor
   saw = λ h i l e. subst (Past (sight h).1) (b i l) (o.saw h i l e);
   are = o.are;
 }
+
+-- the same where the words agree
+pub outdated_same : (n : ℕ) (word word' holders : ℕ → ℕ) (locks : ℕ → List Lock) → ((i : ℕ) → i < n → word i ≡ word' i) → Outdated n word holders locks → Outdated n word' holders locks
+outdated_same n word word' holders locks a o = record { lower = λ h i w p q l m. subst (λ (z : ℕ). ((w ≡ z) × (holders i ≡ h)) ⊎ (digit (w / 16) (h - 1) < digit (z / 16) (h - 1))) (a i l) (o.lower h i w p q l m) }
+
+-- the counts of a word at a lane's place
+pub counts_at : (i h : ℕ) (f : ℕ → List Item) → 0 < h → h < 9 → get_or (counts i f) (h - 1) 0 ≡ count i f h
+counts_at i zero f a b = absurd (omega arith)
+counts_at i (suc zero) f a b = refl
+counts_at i (suc (suc zero)) f a b = refl
+counts_at i (suc (suc (suc zero))) f a b = refl
+counts_at i (suc (suc (suc (suc zero)))) f a b = refl
+counts_at i (suc (suc (suc (suc (suc zero))))) f a b = refl
+counts_at i (suc (suc (suc (suc (suc (suc zero)))))) f a b = refl
+counts_at i (suc (suc (suc (suc (suc (suc (suc zero))))))) f a b = refl
+counts_at i (suc (suc (suc (suc (suc (suc (suc (suc zero)))))))) f a b = refl
+counts_at i (suc (suc (suc (suc (suc (suc (suc (suc (suc k))))))))) f a b = absurd (omega arith)
+
+pub small_counts : (i : ℕ) (f : ℕ → List Item) → ((h : ℕ) → h < 9 → count i f h < 128) → Small (counts i f)
+small_counts i f e = (e 1 (omega arith), (e 2 (omega arith), (e 3 (omega arith), (e 4 (omega arith), (e 5 (omega arith), (e 6 (omega arith), (e 7 (omega arith), (e 8 (omega arith), tt))))))))
+
+pub digit_of : (h k : ℕ) (cs : List ℕ) → h < 16 → Small cs → digit (word_for h cs / 16) k ≡ get_or cs k 0
+digit_of h k cs l s = let e : word_for h cs / 16 ≡ pack cs = omega (arith, l) in ap (λ (w : ℕ). digit w k) e ∙ digit-pack cs k s
+
+pub above_at : (cs ds : List ℕ) (k : ℕ) → NoneAbove cs ds → get_or cs k 0 ≤ get_or ds k 0
+above_at [] ds k a = omega arith
+above_at (c ∷ cs) [] k a = absurd a
+above_at (c ∷ cs) (d ∷ ds) zero a = a.0
+above_at (c ∷ cs) (d ∷ ds) (suc k) a = above_at cs ds k a.1
 
 -- counts grow with each lane's items
 pub counts_grow : (i : ℕ) (f g : ℕ → List Item) → ((h : ℕ) → count i f h ≤ count i g h) → NoneAbove (counts i f) (counts i g)
@@ -144,3 +178,27 @@ module _ (n : ℕ) (word holders : ℕ → ℕ) (locks : ℕ → List Lock) (o :
         (λ (t : digit (v / 16) (k - 1) < digit (word i / 16) (k - 1)). inr (omega (arith, t, up (k - 1)))) (subst (λ (x : ℕ). Told word holders k x v) e (o.lower k r v p q l a)))))
         (λ ne. subst (λ (z : ℕ). ((v ≡ z) × (put holders i 0 r ≡ k)) ⊎ (digit (v / 16) (k - 1) < digit (z / 16) (k - 1))) (sym (put-other word i r new ne)) (subst (λ (z : ℕ). ((v ≡ word r) × (z ≡ k)) ⊎ (digit (v / 16) (k - 1) < digit (word r / 16) (k - 1))) (sym (put-other holders i r 0 ne)) (o.lower k r v p q l a)));
   }
+
+some_at : (cs ds : List ℕ) → SomeBelow cs ds → (k : ℕ) × (get_or cs k 0 < get_or ds k 0)
+some_at [] ds a = absurd a
+some_at (c ∷ cs) [] a = absurd a
+some_at (c ∷ cs) (d ∷ ds) a = ⊎_elim (λ (t : c < d). (zero, t)) (λ (t : SomeBelow cs ds). let r = some_at cs ds t in (suc r.0, r.1)) a
+
+small_below : (cs ds : List ℕ) → NoneAbove cs ds → Small ds → Small cs
+small_below [] ds a s = tt
+small_below (c ∷ cs) [] a s = absurd a
+small_below (c ∷ cs) (d ∷ ds) a s = (omega (arith, a.0, s.0), small_below cs ds a.1 s.1)
+
+-- a note read off its words
+pub busy : (locks : ℕ → List Lock) (h : ℕ) (x : Note) → IsNote locks h x → IsBusy locks h x
+busy locks h x is =
+    let before : (k : ℕ) → digit (x.seen / 16) k ≡ get_or is.past.before k 0 = λ k. ap (λ (z : ℕ). digit (z / 16) k) is.past.is ∙ digit_of is.past.holder k is.past.before is.past.small (small_below is.past.before is.after is.past.le is.small) in
+    let after : (k : ℕ) → digit (x.read / 16) k ≡ get_or is.after k 0 = λ k. ap (λ (z : ℕ). digit (z / 16) k) is.read ∙ digit_of is.holder k is.after is.few is.small in
+    let whose : is.holder ≡ x.read % 16 = omega (arith, is.read, is.few) in
+    record {
+      later = λ k. omega (arith, before k, after k, above_at is.past.before is.after k is.past.le);
+      by_whom = subst (BusyBy locks h x) whose (by_cause is.holder is.why);
+    } where
+      by_cause : (b : ℕ) → Why locks h x.shelf x.read is.past.before is.after b → BusyBy locks h x b
+      by_cause zero w = let t = some_at is.past.before is.after w in (t.0, omega (arith, t.1, ap (λ (z : ℕ). digit (z / 16) t.0) is.past.is ∙ digit_of is.past.holder t.0 is.past.before is.past.small (small_below is.past.before is.after is.past.le is.small), ap (λ (z : ℕ). digit (z / 16) t.0) is.read ∙ digit_of is.holder t.0 is.after is.few is.small))
+      by_cause (suc b) w = w

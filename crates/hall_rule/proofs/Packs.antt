@@ -1,10 +1,7 @@
 -- Counts packed into a word.
-use Rattle.std.proofs.Common.{◌≡◌, ℕ, zero, suc, ◌+◌, ◌%◌, ◌<◌, List, [], ◌∷◌, length, get_or, set, refl, arith, subst}
-use Rattle.hall_rule.specs.Words.{pack, weight, word_for}
-
-abbrev pub Small : List ℕ → Type 0
-Small [] = Unit {0}
-Small (c ∷ cs) = (c < 128) × Small cs
+use Rattle.std.proofs.Common.{◌≡◌, ℕ, zero, suc, ◌+◌, ap, ◌∙◌, get_or, ◌/◌, ◌*◌, ◌%◌, ◌<◌, List, [], ◌∷◌, length, get_or, set, refl, arith, subst}
+use Rattle.hall_rule.specs.Notes.{digit}
+use Rattle.hall_rule.specs.Words.{pack, weight, word_for, Small}
 
 -- one more at the place k
 pub pack-more : (cs : List ℕ) (k n : ℕ) → k < length cs → n ≡ get_or cs k 0 + 1 → pack (set cs k n) ≡ pack cs + weight k
@@ -31,3 +28,10 @@ holder-none h cs l e = omega arith
 
 pub word-below : (h : ℕ) (cs : List ℕ) → h < 16 → length cs ≡ 8 → Small cs → word_for h cs < 2305843009213693952
 word-below h cs l e s = let b : pack cs < weight 8 = subst (λ (k : ℕ). pack cs < weight k) e (pack-below cs s) in omega arith
+
+-- a count is read off a word digit by digit
+pub digit-pack : (cs : List ℕ) (k : ℕ) → Small cs → digit (pack cs) k ≡ get_or cs k 0
+digit-pack [] zero s = refl
+digit-pack [] (suc k) s = digit-pack [] k tt
+digit-pack (c ∷ cs) zero s = omega (arith, s.0)
+digit-pack (c ∷ cs) (suc k) s = let here : (c + 128 * pack cs) / 128 ≡ pack cs = omega (arith, s.0) in ap (λ (w : ℕ). digit w k) here ∙ digit-pack cs k s.1

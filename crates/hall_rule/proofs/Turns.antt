@@ -1,11 +1,9 @@
 -- One item more in an ordered list: it goes behind the items of its holder, and behind those of its shelf, if its rank is above theirs.
-use Rattle.std.proofs.Common.{◌≡◌, ◌≢◌, ℕ, zero, suc, ◌+◌, ◌*◌, ◌/◌, ◌%◌, ◌<◌, ◌≤◌, List, [], ◌∷◌, ◌++◌, get_or, sym, refl, ap, ◌∙◌, arith, cond, eqb, eq-eqb, ne_eqb, lt-ltb, le-ltb, subst, Bool, true, false}
+use Rattle.std.proofs.Common.{◌≡◌, ◌≢◌, ℕ, ◌<◌, ◌≤◌, List, [], ◌∷◌, ◌++◌, sym, refl, ap, ◌∙◌, arith, cond, eqb, eq-eqb, ne_eqb, lt-ltb, le-ltb, subst, Bool, true, false}
 use mathlib.Core.Logic.{dite}
 use native.Mathlib.Decide.{ℕ_discrete, dec_le}
 use Rattle.hall_rule.specs.Items.{by, in_shelf, Below}
-use Rattle.hall_rule.specs.Words.{pack}
 use Rattle.hall_rule.specs.Turn.{rank, Over, Under, Ordered, insert, Apart, Known}
-use Rattle.hall_rule.proofs.Packs.{Small}
 use Rattle.hall_rule.specs.declared.item.Item.{Item}
 
 ins-lt : (x y : Item) (ys : List Item) → rank x < rank y → insert x (y ∷ ys) ≡ x ∷ y ∷ ys
@@ -106,14 +104,3 @@ ranks-apart x [] h k b = tt
 ranks-apart x (y ∷ ys) h k b = dite (ℕ_discrete y.holder x.holder)
     (λ e. let c : Below x.ticket (y ∷ by x.holder ys) = subst (λ (z : Bool). Below x.ticket (cond z (y ∷ by x.holder ys) (by x.holder ys))) (eq-eqb y.holder x.holder e) b in ((λ q. omega (arith, c.0)), ranks-apart x ys h k.1 c.1))
     (λ ne. let c : Below x.ticket (by x.holder ys) = subst (λ (z : Bool). Below x.ticket (cond z (y ∷ by x.holder ys) (by x.holder ys))) (ne_eqb y.holder x.holder ne) b in ((λ q. ne (omega (arith, k.0))), ranks-apart x ys h k.1 c))
-
--- the count at a place, read off a word digit by digit
-abbrev pub digit : ℕ → ℕ → ℕ
-digit w zero = w % 128
-digit w (suc k) = digit (w / 128) k
-
-pub digit-pack : (cs : List ℕ) (k : ℕ) → Small cs → digit (pack cs) k ≡ get_or cs k 0
-digit-pack [] zero s = refl
-digit-pack [] (suc k) s = digit-pack [] k tt
-digit-pack (c ∷ cs) zero s = omega (arith, s.0)
-digit-pack (c ∷ cs) (suc k) s = let here : (c + 128 * pack cs) / 128 ≡ pack cs = omega (arith, s.0) in ap (λ (w : ℕ). digit w k) here ∙ digit-pack cs k s.1

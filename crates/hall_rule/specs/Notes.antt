@@ -1,6 +1,6 @@
 -- Notes of a busy shelf: what a seat that was told of a holder may know.
 use Rattle.std.specs.Prelude.{◌≡◌, ◌≢◌, ℕ, zero, suc, ◌+◌, ◌-◌, ◌/◌, ◌%◌, ◌<◌, ◌≤◌, ◌⊎◌, List, [], ◌∷◌, ◌++◌, length}
-use Rattle.hall_rule.specs.Words.{word_for}
+use Rattle.hall_rule.specs.Words.{Small, word_for}
 use Rattle.hall_rule.specs.declared.view.Lock.{Lock}
 use Rattle.hall_rule.specs.declared.view.Note.{Note}
 
@@ -37,6 +37,8 @@ Why locks h i read before after (suc b) = (suc b ≢ h) × Among i read (locks (
 pub record IsNote (locks : ℕ → List Lock) (h : ℕ) (x : Note) : Type 0 where
   pub after : List ℕ
   pub holder : ℕ
+  pub few : holder < 16
+  pub small : Small after
   pub read : x.read ≡ word_for holder after
   pub past : Past x.seen after
   pub why : Why locks h x.shelf x.read past.before after holder
@@ -59,6 +61,17 @@ pub record Noted (n : ℕ) (word holders : ℕ → ℕ) (counted : ℕ → List 
 abbrev pub digit : ℕ → ℕ → ℕ
 digit w zero = w % 128
 digit w (suc k) = digit (w / 128) k
+
+-- With a holder the word read is one that this holder's lock wrote, and this holder is another; with none a piece was released between the load and the exchange.
+abbrev pub BusyBy : (ℕ → List Lock) → ℕ → Note → ℕ → Type 0
+BusyBy locks h x zero = (k : ℕ) × (digit (x.seen / 16) k < digit (x.read / 16) k)
+BusyBy locks h x (suc b) = (suc b ≢ h) × Among x.shelf x.read (locks (suc b))
+
+-- why a seat was told that a shelf is busy
+pub record IsBusy (locks : ℕ → List Lock) (h : ℕ) (x : Note) : Type 0 where
+  -- no count seen is above the one read
+  pub later : (k : ℕ) → digit (x.seen / 16) k ≤ digit (x.read / 16) k
+  pub by_whom : BusyBy locks h x (x.read % 16)
 
 -- every lock of a lane but that of the shelf that it holds has a count of this lane below that of the shelf's word now
 pub record Outdated (n : ℕ) (word holders : ℕ → ℕ) (locks : ℕ → List Lock) : Type 0 where

@@ -1,11 +1,12 @@
 -- The rule of a hall's table. Word 0 is the ticket word, the words 1 to 8 are the lanes', and word i + 9 is that of the shelf i.
-use Rattle.std.specs.Prelude.{◌≡◌, ◌≢◌, ℕ, zero, suc, ◌+◌, ◌<◌, ◌≤◌, List, [], ◌∷◌, ◌++◌, length, slice_index, slice_index_or, Option, Some}
+use Rattle.std.specs.Prelude.{◌≡◌, ◌≢◌, ℕ, zero, suc, ◌+◌, ◌-◌, ◌/◌, ◌<◌, ◌≤◌, List, [], ◌∷◌, ◌++◌, length, slice_index, slice_index_or, Option, Some}
 use mathlib.Core.Option.{some, none}
 use mathlib.Core.Option as maybe
 use lib.ListN.{get_elem?}
 use Rattle.atomic_table.specs.Table.{State}
 use Rattle.hall_rule.specs.Items.{AllFrom, total, by, in_shelf, entries_of, Below, Rises, times, shelves}
 use Rattle.hall_rule.specs.Turn.{Ordered, Known}
+use Rattle.hall_rule.specs.Notes.{AllAre, Among, IsBusy, Noted, Outdated, digit}
 use Rattle.hall_rule.specs.Words.{word_for, count, counts}
 use Rattle.hall_rule.specs.declared.item.Item.{Item}
 use Rattle.hall_rule.specs.declared.view.View.{View}
@@ -72,13 +73,20 @@ pub record Holds (n : ℕ) (words : List ℕ) (holders : ℕ → ℕ) (logs : �
   pub log : v.log ≡ logs i
 
 -- what is so of each seat with a holder
-pub record Named (seats : ℕ → ℕ) (lanes : ℕ → List Item) (todos : ℕ → List ℕ) (tolds : ℕ → ℕ) (desks : List Desk) (j : ℕ) (v : View) : Type 0 where
+pub record Named (seats : ℕ → ℕ) (lanes : ℕ → List Item) (todos : ℕ → List ℕ) (tolds : ℕ → ℕ) (locks : ℕ → List Lock) (notes : ℕ → List Note) (sights : ℕ → ℕ × ℕ) (desks : List Desk) (j : ℕ) (v : View) : Type 0 where
   pub inside : v.holder < 10
   pub seat : seats v.holder ≡ j
   pub items : v.items ≡ lanes v.holder
   pub todo : v.todo ≡ todos v.holder
   pub told : v.told ≡ tolds v.holder
+  pub locks_are : v.locks ≡ locks v.holder
+  pub notes_are : v.notes ≡ notes v.holder
+  pub sight : sights v.holder ≡ (v.looked, v.seen)
   pub out : (desk_at desks v.holder).out ≡ 1
+
+-- the shelf's word
+abbrev pub word_of : List ℕ → ℕ → ℕ
+word_of words i = slice_index words (i + 9)
 
 -- the first seat has no holder and no shelf, and keeps these desks
 abbrev pub Leads : List View → List Desk → Type 0
@@ -100,6 +108,9 @@ module _ {S : Type 0} (fits : ℕ → List Item → S → Type 0) (cap : ℕ →
     pub todos : ℕ → List ℕ
     pub tolds : ℕ → ℕ
     pub logs : ℕ → List Item
+    pub locks : ℕ → List Lock
+    pub notes : ℕ → List Note
+    pub sights : ℕ → ℕ × ℕ
     pub holders : ℕ → ℕ
     pub seats : ℕ → ℕ
     pub desks : List Desk
@@ -110,8 +121,8 @@ module _ {S : Type 0} (fits : ℕ → List Item → S → Type 0) (cap : ℕ →
     pub free : (i : ℕ) → i < length s.homes → holders i ≡ 0 → AtHome fits s.homes i (logs i)
     pub taken : (i : ℕ) → i < length s.homes → holders i ≢ 0 → Away s.homes s.views i (seats (holders i))
     pub held : (j : ℕ) (v : View) → get_elem? s.views j ≡ some v → (i : ℕ) → v.at ≡ i + 1 → Holds (length s.homes) s.words holders logs v i
-    pub named : (j : ℕ) (v : View) → get_elem? s.views j ≡ some v → 0 < v.holder → Named seats lanes todos tolds desks j v
-    pub kept : (h : ℕ) → (desk_at desks h).out ≡ 0 → ((desk_at desks h).items ≡ lanes h) × ((desk_at desks h).todo ≡ todos h) × ((desk_at desks h).told ≡ tolds h)
+    pub named : (j : ℕ) (v : View) → get_elem? s.views j ≡ some v → 0 < v.holder → Named seats lanes todos tolds locks notes sights desks j v
+    pub kept : (h : ℕ) → (desk_at desks h).out ≡ 0 → ((desk_at desks h).items ≡ lanes h) × ((desk_at desks h).todo ≡ todos h) × ((desk_at desks h).told ≡ tolds h) × ((desk_at desks h).locks ≡ locks h) × ((desk_at desks h).notes ≡ notes h)
     -- a lane's word is the number of its pieces done, once it has left
     pub left : (h : ℕ) → 0 < h → h < 9 → slice_index s.words h ≡ counted (tolds h) (length (lanes h))
     -- all that was done, in order
@@ -120,6 +131,9 @@ module _ {S : Type 0} (fits : ℕ → List Item → S → Type 0) (cap : ℕ →
     pub whose : (h : ℕ) → by h turn ≡ lanes h
     pub lies : (i : ℕ) → in_shelf i turn ≡ logs i
     pub known : Known turn
+    -- what was locked, and what was busy
+    pub noted : Noted (length s.homes) (word_of s.words) holders (λ i. counts i lanes) locks notes sights
+    pub outdated : Outdated (length s.homes) (word_of s.words) holders locks
     -- tickets
     pub bound : slice_index s.words 0 + total purse s.views ≤ 10376293541461622784
     pub low : (j : ℕ) (v : View) → get_elem? s.views j ≡ some v → v.low ≤ slice_index s.words 0
@@ -140,6 +154,10 @@ module _ {S : Type 0} (fits : ℕ → List Item → S → Type 0) (cap : ℕ →
     pub back : (i : ℕ) → i < length xs → (x : S) × (get_elem? xs i ≡ some (Some x)) × fits i (in_shelf i turn) x
     pub whose : (h : ℕ) → by h turn ≡ (desk_at desks h).items
     pub below : (h : ℕ) → Below next (by h turn)
+    pub few : next ≤ 10376293541461622784
     pub left : (h : ℕ) → 0 < h → h < 9 → slice_index words h ≡ counted (desk_at desks h).told (length (desk_at desks h).items)
     pub planned : (h : ℕ) → 0 < h → h < 9 → shelves (desk_at desks h).items ++ (desk_at desks h).todo ≡ plan h
     pub served : (h : ℕ) → AllFrom (serves h) 0 (desk_at desks h).items
+    pub noted : (h : ℕ) → AllAre (IsBusy (λ k. (desk_at desks k).locks) h) (desk_at desks h).notes
+    -- each lock of a lane wrote a word with fewer of its pieces than were done in the end
+    pub outdated : (h i w : ℕ) → 0 < h → h < 9 → i < length xs → Among i w (desk_at desks h).locks → digit (w / 16) (h - 1) < length (in_shelf i (desk_at desks h).items)
