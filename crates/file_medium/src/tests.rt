@@ -159,24 +159,43 @@ fn has_runs(rt: &HostRuntime, path: &str, runs: &[(usize, u8)]) -> Result<bool, 
     Ok(rest.is_empty())
 }
 
+/// Opens that many shelves of a size.
+fn opened(
+    rt: &HostRuntime,
+    path: &str,
+    shelves: u32,
+    shelf: u32,
+    make: bool,
+) -> Result<Vec<FileMedium<fs::File>>, OpenFault>
+    requires { (1 ≤ shelf) × (shelf ≤ 8) × (shelves ≤ 8) }
+{
+    open_files(rt, rt.alloc(), path, shelves * shelf, shelf, make)
+}
+
+/// Fills block `b` with that byte, through the bound that the product has.
+fn fill<M: Medium + Send>(medium: &mut M, b: u32, byte: u8) -> Result<(), Failed> {
+    if b < medium.len() {
+        return medium.put(b, &[byte; 512]);
+    }
+    Ok(())
+}
+
 #[test]
 fn a_file_in_three_parts(rt: HostRuntime) -> Result<(), Fail> {
     let path = format!(in rt.alloc(); "file_medium_{}", process::id(rt.process()))?;
     let path = path.as_str();
-    assert!(rt; open_files(&rt, rt.alloc(), path, 6, 2, false).err() == Some(OpenFault::Failed));
-    let mut media = open_files(&rt, rt.alloc(), path, 6, 2, true).map_err(|_| "not made")?;
+    assert!(rt; opened(&rt, path, 3, 2, false).err() == Some(OpenFault::Failed));
+    let mut media = opened(&rt, path, 3, 2, true).map_err(|_| "not made")?;
     assert!(rt; media.len() == 3 && has_runs(&rt, path, &[(3072, 0)])?);
-    assert!(rt; media[1].put(1, &[7; 512]) == Ok(()) && media[2].put(0, &[8; 512]) == Ok(()));
+    assert!(rt; fill(&mut media[1], 1, 7) == Ok(()) && fill(&mut media[2], 0, 8) == Ok(()));
     assert!(rt; media[0].sync() == Ok(()));
     assert!(rt; has_runs(&rt, path, &[(1536, 0), (512, 7), (512, 8), (512, 0)])?);
-    let again = open_files(&rt, rt.alloc(), path, 6, 6, true).map_err(|_| "not opened")?;
+    let again = opened(&rt, path, 1, 6, true).map_err(|_| "not opened")?;
     assert!(rt; again.len() == 1 && again[0].len() == 6);
-    let long = open_files(&rt, rt.alloc(), path, 5, 5, true).err();
+    let long = opened(&rt, path, 1, 5, true).err();
     assert!(rt; long == Some(OpenFault::WrongLength { got: 3072 }));
     fs::remove_file(&rt, path)?;
-    assert!(rt;
-        open_files(&rt, rt.alloc(), "no/such", 6, 2, true).err() == Some(OpenFault::Failed)
-    );
+    assert!(rt; opened(&rt, "no/such", 3, 2, true).err() == Some(OpenFault::Failed));
     Ok(())
 }
 
