@@ -41,7 +41,8 @@ use Rattle.session.specs.Moves.{Moves, Stays, Tries, both, owed_by, owing_all}
 use Rattle.session.specs.Lanes.{HaveWindows, IsComplete}
 use Rattle.nvm_model.specs.Told.{serial}
 use Rattle.session.specs.Place.{IsPlaceOf, AreQuiet, DoesTurn, IsReady, IsWaiting, PlaceState, StandsFor, StandsOn, machine, total_work}
-use Rattle.session.specs.Sides.{Goes, IsMoveDue, IsNewManager, IsOnward, IsRunning, MaySuspend, MovesAtOnce, Owes, SessionState, Sides, StandsAs, at_side, by_side, machine_of, move_set, sides}
+use Rattle.session.specs.declared.ending.Ending.TheVariants.{Done}
+use Rattle.session.specs.Sides.{Goes, HasEnded, IsEnding, IsMoveDue, IsNewManager, IsOnward, IsRunning, MaySuspend, MovesAtOnce, Owes, SessionState, Sides, StandsAs, at_side, by_side, machine_of, move_set, sides}
 use Rattle.session.proofs.MemoryLemmas.{whole_memory}
 use Rattle.session.proofs.ServedLemmas.{served_more, served_none}
 use Rattle.session.proofs.ShelvesLemmas.{same_namespace}
@@ -115,6 +116,10 @@ none_asked s untried done none = by s.script.head.migrate refl
     by : (asked : Option ℕ) → s.script.head.migrate ≡ asked → asked ≡ None
     by None is = refl
     by (Some turn) is = absurd (none (record { untried = untried; turn = turn; asked_is = is; when = inr done }))
+
+-- such a run ended as it should
+pub ended_unmoved : (old new : SessionState) → new ≡ record old { phase = Over } → old.tried ≡ false → All IsComplete old.runs → (IsMoveDue old → ⊥) → HasEnded Done new
+ended_unmoved old new is untried done none = subst (HasEnded Done) (sym is) (record { over = refl; ended = subst (λ (asked : Option ℕ). IsEnding asked old.side Done) (sym (none_asked old untried done none)) tt })
 
 -- The stages.
 

@@ -28,5 +28,6 @@ pub mod StageLineLaws
 pub mod StopLaws
 pub mod TextLaws
 pub mod ToldLaws
+pub mod TraceLaws
 pub mod WholeLaws
 pub mod WroteLaws

@@ -22,11 +22,11 @@ use Rattle.nvm_model.specs.declared.trace.Step.{Step}
 use Rattle.nvm_model.specs.declared.trace.Step.TheVariants.{Get, Put, Mark}
 use Rattle.nvm_model.specs.Chain.{Chain}
 use Rattle.nvm_model.specs.Medium.{At, MediumState, all_at, marked, marks_at}
-use Rattle.nvm_model.specs.Run.{AllCopied, Copy, CopyEnd, Here, IsItem, IsStage, Item, PieceCalled, PieceOnLane, Snapshot, Stage, Task, TurnDone, by_side, calls_at, copies_of, copy_calls, gets_of, here_of, media_count, opposite, part_of, puts_of, resume_mark, there_of, turn_calls}
+use Rattle.nvm_model.specs.Run.{AllCopied, Copy, CopyEnd, Here, IsItem, IsStage, Item, PieceCalled, PieceOnLane, Snapshot, Stage, Task, TurnDone, by_side, calls_at, copies_of, copy_calls, due_after, gets_of, here_of, media_count, opposite, part_of, puts_of, resume_mark, there_of, turn_calls}
 use Rattle.nvm_model.specs.Run.CopyEnd.{Copied, NotRead, NotWritten}
 use Rattle.nvm_model.specs.Run.Item.{Served, Crossed}
 use Rattle.nvm_model.specs.Run.Stage.{Title, Turn, Begin, Round, Broken, Suspend, Resume, Stop, GiveUp, End}
-use Rattle.nvm_model.specs.Segment.{HasCopied, block_steps, item_steps, piece_steps, segment, steps_at, tried, unmarked_front}
+use Rattle.nvm_model.specs.Segment.{BrokeOff, HasBroken, HasCopied, block_steps, item_steps, piece_steps, read_block, read_blocks, segment, steps_at, tried, unmarked_front}
 use Rattle.nvm_model.specs.Trace.{data_sent, good_calls, moved_count, piece_calls, step_of}
 use Rattle.nvm_model.specs.World.{Lane}
 use Rattle.turns.proofs.CrossLaws.{after_copied}
@@ -158,49 +158,60 @@ piece_here s i p lane new d =
     ap (steps_at i) d.calls_are ∙ shelf_steps i (p.first / s.head.shelf) _
     ∙ ap (λ (steps : List Step). cond (p.first / s.head.shelf == i) steps []) (call_steps (p.first % s.head.shelf) 0 p.count (part_of p) lane.pages d.moved p.outcome d.done.count)
 
-copy_here : (size i : ℕ) (c : Copy) (ended : CopyEnd) → ended ≡ Copied → (steps_at i (gets_of size (record c { ended = ended })) ≡ block_steps (λ b. Get b) size i (c.block ∷ [])) × (steps_at i (puts_of size (record c { ended = ended })) ≡ block_steps (λ b. Put b) size i (c.block ∷ []))
-copy_here size i c Copied is = (refl, refl)
-copy_here size i c NotRead is = absurd cc
-copy_here size i c NotWritten is = absurd cc
+copy_here : (size i : ℕ) (c : Copy) (ended : CopyEnd) → (steps_at i (gets_of size (record c { ended = ended })) ≡ block_steps (λ b. Get b) size i (c.block ∷ [])) × (steps_at i (puts_of size (record c { ended = ended })) ≡ block_steps (λ b. Put b) size i (read_block ended c.block))
+copy_here size i c Copied = (refl, refl)
+copy_here size i c NotRead = (refl, refl)
+copy_here size i c NotWritten = (refl, refl)
 
-block_more : (step : ℕ → Step) (size i : ℕ) (b : ℕ) (blocks : List ℕ) → block_steps step size i (b ∷ []) ++ block_steps step size i blocks ≡ block_steps step size i (b ∷ blocks)
-block_more step size i b blocks = by (b / size == i)
+block_more : (step : ℕ → Step) (size i : ℕ) (front blocks : List ℕ) → block_steps step size i front ++ block_steps step size i blocks ≡ block_steps step size i (front ++ blocks)
+block_more step size i [] blocks = refl
+block_more step size i (b ∷ front) blocks = by (b / size == i) ∙ ap (λ (steps : List Step). cond (b / size == i) (step (b % size) ∷ steps) steps) (block_more step size i front blocks)
   where
-    by : (t : Bool) → cond t (step (b % size) ∷ []) [] ++ block_steps step size i blocks ≡ cond t (step (b % size) ∷ block_steps step size i blocks) (block_steps step size i blocks)
+    first : List Step
+    first = block_steps step size i front
+
+    last : List Step
+    last = block_steps step size i blocks
+
+    by : (t : Bool) → cond t (step (b % size) ∷ first) first ++ last ≡ cond t (step (b % size) ∷ first ++ last) (first ++ last)
     by true = refl
     by false = refl
 
--- the steps of items, where every copy was made
-pub items_here : {M I : Type 0} (state : M → MediumState I) (moves : I → Step → Bool → I → Type 0) (task : Task) (i : ℕ) (x : Here M) (items : List Item) (y : Here M) → Chain (IsItem state moves task) x items y → AllCopied (copies_of items) →
+-- where no copy failed all were read
+read_all : (copies : List Copy) → AllCopied copies → read_blocks copies ≡ map (λ (c : Copy). c.block) copies
+read_all [] all = refl
+read_all (c ∷ copies) all = ap (λ (ended : CopyEnd). read_block ended c.block ++ read_blocks copies) all.0 ∙ ap (λ (bs : List ℕ). c.block ∷ bs) (read_all copies all.1)
+
+-- the steps of items
+pub items_here : {M I : Type 0} (state : M → MediumState I) (moves : I → Step → Bool → I → Type 0) (task : Task) (i : ℕ) (x : Here M) (items : List Item) (y : Here M) → Chain (IsItem state moves task) x items y →
     (steps_at i (flat_map (here_of task.script.head.shelf) items) ≡ item_steps task.script.head.shelf i items)
-    × (steps_at i (flat_map (there_of task.script.head.shelf) items) ≡ block_steps (λ b. Put b) task.script.head.shelf i (map (λ (c : Copy). c.block) (copies_of items)))
-items_here state moves task i x [] y c all = (refl, refl)
-items_here state moves task i x (Served p ∷ items) y c all =
+    × (steps_at i (flat_map (there_of task.script.head.shelf) items) ≡ block_steps (λ b. Put b) task.script.head.shelf i (read_blocks (copies_of items)))
+items_here state moves task i x [] y c = (refl, refl)
+items_here state moves task i x (Served p ∷ items) y c =
     let size = task.script.head.shelf in
-    let rest = items_here state moves task i c.0 items y c.2 all in
+    let rest = items_here state moves task i c.0 items y c.2 in
     (steps_more i p.calls (flat_map (here_of size) items) ∙ ap (λ (steps : List Step). steps ++ steps_at i (flat_map (here_of size) items)) (piece_here task.script i p _ c.1.lane c.1.does) ∙ ap (λ (steps : List Step). piece_steps size i p ++ steps) rest.0, rest.1)
-items_here state moves task i x (Crossed k ∷ items) y c all =
+items_here state moves task i x (Crossed k ∷ items) y c =
     let size = task.script.head.shelf in
-    let blocks = map (λ (d : Copy). d.block) (copies_of items) in
-    let rest = items_here state moves task i c.0 items y c.2 all.1 in
-    let one = copy_here size i k k.ended all.0 in (
+    let rest = items_here state moves task i c.0 items y c.2 in
+    let one = copy_here size i k k.ended in (
       steps_more i (gets_of size k) (flat_map (here_of size) items) ∙ ap (λ (steps : List Step). steps ++ steps_at i (flat_map (here_of size) items)) one.0 ∙ ap (λ (steps : List Step). block_steps (λ b. Get b) size i (k.block ∷ []) ++ steps) rest.0,
-      steps_more i (puts_of size k) (flat_map (there_of size) items) ∙ ap (λ (steps : List Step). steps ++ steps_at i (flat_map (there_of size) items)) one.1 ∙ ap (λ (steps : List Step). block_steps (λ b. Put b) size i (k.block ∷ []) ++ steps) rest.1
-          ∙ block_more (λ b. Put b) size i k.block blocks,
+      steps_more i (puts_of size k) (flat_map (there_of size) items) ∙ ap (λ (steps : List Step). steps ++ steps_at i (flat_map (there_of size) items)) one.1 ∙ ap (λ (steps : List Step). block_steps (λ b. Put b) size i (read_block k.ended k.block) ++ steps) rest.1
+          ∙ block_more (λ b. Put b) size i (read_block k.ended k.block) (read_blocks (copies_of items)),
     )
 
 -- copies alone
-pub copies_here : (size i : ℕ) (copies : List Copy) → AllCopied copies → (steps_at i (flat_map (gets_of size) copies) ≡ block_steps (λ b. Get b) size i (map (λ (c : Copy). c.block) copies))
-    × (steps_at i (flat_map (puts_of size) copies) ≡ block_steps (λ b. Put b) size i (map (λ (c : Copy). c.block) copies))
-copies_here size i [] all = (refl, refl)
-copies_here size i (k ∷ copies) all =
+pub copies_here : (size i : ℕ) (copies : List Copy) → (steps_at i (flat_map (gets_of size) copies) ≡ block_steps (λ b. Get b) size i (map (λ (c : Copy). c.block) copies))
+    × (steps_at i (flat_map (puts_of size) copies) ≡ block_steps (λ b. Put b) size i (read_blocks copies))
+copies_here size i [] = (refl, refl)
+copies_here size i (k ∷ copies) =
     let blocks = map (λ (d : Copy). d.block) copies in
-    let rest = copies_here size i copies all.1 in
-    let one = copy_here size i k k.ended all.0 in (
+    let rest = copies_here size i copies in
+    let one = copy_here size i k k.ended in (
       steps_more i (gets_of size k) (flat_map (gets_of size) copies) ∙ ap (λ (steps : List Step). steps ++ steps_at i (flat_map (gets_of size) copies)) one.0 ∙ ap (λ (steps : List Step). block_steps (λ b. Get b) size i (k.block ∷ []) ++ steps) rest.0
-          ∙ block_more (λ b. Get b) size i k.block blocks,
-      steps_more i (puts_of size k) (flat_map (puts_of size) copies) ∙ ap (λ (steps : List Step). steps ++ steps_at i (flat_map (puts_of size) copies)) one.1 ∙ ap (λ (steps : List Step). block_steps (λ b. Put b) size i (k.block ∷ []) ++ steps) rest.1
-          ∙ block_more (λ b. Put b) size i k.block blocks,
+          ∙ block_more (λ b. Get b) size i (k.block ∷ []) blocks,
+      steps_more i (puts_of size k) (flat_map (puts_of size) copies) ∙ ap (λ (steps : List Step). steps ++ steps_at i (flat_map (puts_of size) copies)) one.1 ∙ ap (λ (steps : List Step). block_steps (λ b. Put b) size i (read_block k.ended k.block) ++ steps) rest.1
+          ∙ block_more (λ b. Put b) size i (read_block k.ended k.block) (read_blocks copies),
     )
 
 -- None of them is a mark.
@@ -271,6 +282,49 @@ each_once {M} state moves task x (Crossed k ∷ items) y c all none =
     (IsPermutation-trans (k.block ∷ blocks) (k.block ∷ (c.1.front ++ c.1.others)) (c.1.front ++ k.block ∷ c.1.others)
     (IsPermutation-cons k.block blocks (c.1.front ++ c.1.others) (subst (λ (ds : List ℕ). IsPermutation blocks ds) due rest))
     (IsPermutation-sym (c.1.front ++ k.block ∷ c.1.others) (k.block ∷ (c.1.front ++ c.1.others)) (IsPermutation-middle c.1.front k.block c.1.others)))
+
+-- Where one failed, they are some of those that were due, and it was the last.
+
+push_copy : (k : Copy) (front others : List ℕ) (copies : List Copy) → k.ended ≡ Copied → BrokeOff (front ++ others) copies → BrokeOff (front ++ k.block ∷ others) (k ∷ copies)
+push_copy k front others copies good b = record {
+  good = k ∷ b.good;
+  last = b.last;
+  others = b.others;
+  copies_are = ap (λ (cs : List Copy). k ∷ cs) b.copies_are;
+  copied = (good, b.copied);
+  failed = b.failed;
+  once =
+      let blocks = map (λ (c : Copy). c.block) copies ++ b.others in
+      IsPermutation-trans (k.block ∷ blocks) (k.block ∷ (front ++ others)) (front ++ k.block ∷ others) (IsPermutation-cons k.block blocks (front ++ others) b.once)
+      (IsPermutation-sym (front ++ k.block ∷ others) (k.block ∷ (front ++ others)) (IsPermutation-middle front k.block others));
+}
+
+last_copy : (k : Copy) (front others : List ℕ) (copies : List Copy) → copies ≡ [] → (k.ended ≡ Copied → ⊥) → BrokeOff (front ++ k.block ∷ others) (k ∷ copies)
+last_copy k front others copies none failed = subst (λ (cs : List Copy). BrokeOff (front ++ k.block ∷ others) (k ∷ cs)) (sym none) (record {
+  good = [];
+  last = k;
+  others = front ++ others;
+  copies_are = refl;
+  copied = tt;
+  failed = failed;
+  once = IsPermutation-sym (front ++ k.block ∷ others) (k.block ∷ (front ++ others)) (IsPermutation-middle front k.block others);
+})
+
+next_copy : (k : Copy) (front others : List ℕ) (copies : List Copy) (ended : CopyEnd) → k.ended ≡ ended → (ended ≡ Copied → BrokeOff (front ++ others) copies) → (due_after ended (front ++ others) ≡ [] → copies ≡ []) → BrokeOff (front ++ k.block ∷ others) (k ∷ copies)
+next_copy k front others copies Copied is rest none = push_copy k front others copies is (rest refl)
+next_copy k front others copies NotRead is rest none = last_copy k front others copies (none refl) (λ e. let same = sym is ∙ e in absurd cc)
+next_copy k front others copies NotWritten is rest none = last_copy k front others copies (none refl) (λ e. let same = sym is ∙ e in absurd cc)
+
+pub broke_off : {M I : Type 0} (state : M → MediumState I) (moves : I → Step → Bool → I → Type 0) (task : Task) (x : Here M) (items : List Item) (y : Here M) → Chain (IsItem state moves task) x items y → (AllCopied (copies_of items) → ⊥) → BrokeOff x.due (copies_of items)
+broke_off state moves task x [] y c failed = absurd (failed tt)
+broke_off {M} state moves task x (Served p ∷ items) y c failed =
+    subst (λ (ds : List ℕ). BrokeOff ds (copies_of items)) (ap (λ (h : Here M). h.due) c.1.after) (broke_off state moves task c.0 items y c.2 failed)
+broke_off {M} state moves task x (Crossed k ∷ items) y c failed =
+    let left = c.1.front ++ c.1.others in
+    let due : c.0.due ≡ due_after k.ended left = ap (λ (h : Here M). h.due) c.1.after in
+    subst (λ (ds : List ℕ). BrokeOff ds (k ∷ copies_of items)) (sym c.1.due) (next_copy k c.1.front c.1.others (copies_of items) k.ended refl
+    (λ good. subst (λ (ds : List ℕ). BrokeOff ds (copies_of items)) (due ∙ ap (λ (e : CopyEnd). due_after e left) good) (broke_off state moves task c.0 items y c.2 (λ all. failed (good, all))))
+    (λ none. after_failed state moves task c.0 items y c.2 (due ∙ none)))
 
 -- The marks of a run.
 
@@ -457,6 +511,7 @@ segment_of s who i n front stage back steps others below none is ends =
 pub record IsFresh {M : Type 0} (s : Script) (x : Snapshot M) : Type 0 where
   pub script : x.task.script ≡ s
   pub phase : x.phase ≡ New
+  pub side : x.side ≡ Source
 
 fresh_begun : {M : Type 0} {s : Script} {x : Snapshot M} → IsFresh s x → IsUnderWay x.phase → x.tried ≡ true
 fresh_begun f under = absurd (subst IsUnderWay f.phase under)
@@ -498,8 +553,16 @@ pub round_copies : {M I : Type 0} (state : M → MediumState I) (moves : I → S
     HasCopied x.task.script.head.shelf i (take x.task.script.head.slice x.owed.blocks) t.items (steps_at i (turn_calls x.task.script t)) (steps_at i (copy_calls x.task.script t))
 round_copies state moves i x side n t lost blocks pages y r =
     let c = r.moving.turn.working in
-    let steps = items_here state moves x.task i _ t.items _ c r.copied in
-    record { once = each_once state moves x.task _ t.items _ c r.copied refl; left_is = steps.0; taken_is = steps.1 }
+    let steps = items_here state moves x.task i _ t.items _ c in
+    record { once = each_once state moves x.task _ t.items _ c r.copied refl; left_is = steps.0; taken_is = steps.1 ∙ ap (λ (bs : List ℕ). block_steps (λ b. Put b) x.task.script.head.shelf i bs) (read_all (copies_of t.items) r.copied) }
+
+-- and where one failed, for some of these
+pub broken_copies : {M I : Type 0} (state : M → MediumState I) (moves : I → Step → Bool → I → Type 0) (i : ℕ) (x : Snapshot M) (side : Side) (n : ℕ) (t : TurnDone) (y : Snapshot M) → IsStage state moves x (Broken side n t) y →
+    HasBroken x.task.script.head.shelf i (take x.task.script.head.slice x.owed.blocks) t.items (steps_at i (turn_calls x.task.script t)) (steps_at i (copy_calls x.task.script t))
+broken_copies state moves i x side n t y r =
+    let c = r.moving.turn.working in
+    let steps = items_here state moves x.task i _ t.items _ c in
+    record { broke = broke_off state moves x.task _ t.items _ c r.failed; left_is = steps.0; taken_is = steps.1 }
 
 -- The pause: between its mark and the next one each medium has the copies of what is owed alone.
 pub pause_segment : {M I : Type 0} (state : M → MediumState I) (moves : I → Step → Bool → I → Type 0) (s : Script) (who : Side) (i : ℕ) (old : Snapshot M) (front : List Stage) (x : Snapshot M) (side : Side) (n : ℕ) (copies : List Copy) (pages : ℕ) (y : Snapshot M) (back : List Stage) →
@@ -520,15 +583,18 @@ pause_segment {M} state moves s who i old front x side n copies pages y back fre
     refl
     ∙ sides who side (ap (λ (bs : List ℕ). block_steps (λ b. Get b) size i bs) r.copies_all.each) (ap (λ (bs : List ℕ). block_steps (λ b. Put b) size i bs) r.copies_all.each)
   where
-    steps : List (List Step)
-    steps = []
+    gets : steps_at i (flat_map (gets_of s.head.shelf) copies) ≡ block_steps (λ b. Get b) s.head.shelf i (map (λ (c : Copy). c.block) copies)
+    gets = (copies_here s.head.shelf i copies).0
 
-    sides : {gets puts : List Step} (w k : Side) → block_steps (λ b. Get b) s.head.shelf i (map (λ (c : Copy). c.block) copies) ≡ gets → block_steps (λ b. Put b) s.head.shelf i (map (λ (c : Copy). c.block) copies) ≡ puts →
-        steps_at i (by_side w k (flat_map (gets_of s.head.shelf) copies) (flat_map (puts_of s.head.shelf) copies)) ≡ by_side w k gets puts
-    sides Source Source p q = (copies_here s.head.shelf i copies r.copies_all.copied).0 ∙ p
-    sides Source Destination p q = (copies_here s.head.shelf i copies r.copies_all.copied).1 ∙ q
-    sides Destination Source p q = (copies_here s.head.shelf i copies r.copies_all.copied).1 ∙ q
-    sides Destination Destination p q = (copies_here s.head.shelf i copies r.copies_all.copied).0 ∙ p
+    puts : steps_at i (flat_map (puts_of s.head.shelf) copies) ≡ block_steps (λ b. Put b) s.head.shelf i (map (λ (c : Copy). c.block) copies)
+    puts = (copies_here s.head.shelf i copies).1 ∙ ap (λ (bs : List ℕ). block_steps (λ b. Put b) s.head.shelf i bs) (read_all copies r.copies_all.copied)
+
+    sides : {got put : List Step} (w k : Side) → block_steps (λ b. Get b) s.head.shelf i (map (λ (c : Copy). c.block) copies) ≡ got → block_steps (λ b. Put b) s.head.shelf i (map (λ (c : Copy). c.block) copies) ≡ put →
+        steps_at i (by_side w k (flat_map (gets_of s.head.shelf) copies) (flat_map (puts_of s.head.shelf) copies)) ≡ by_side w k got put
+    sides Source Source p q = gets ∙ p
+    sides Source Destination p q = puts ∙ q
+    sides Destination Source p q = puts ∙ q
+    sides Destination Destination p q = gets ∙ p
 
 -- A pause in which a copy failed: each medium has the calls of the copies up to that one alone.
 pub stop_segment : {M I : Type 0} (state : M → MediumState I) (moves : I → Step → Bool → I → Type 0) (s : Script) (who : Side) (i : ℕ) (old : Snapshot M) (front : List Stage) (x : Snapshot M) (side : Side) (n : ℕ) (copies : List Copy) (y : Snapshot M) (back : List Stage) (z : Snapshot M) →
@@ -548,12 +614,12 @@ stop_segment {M} state moves s who i old front x side n copies y back z fresh th
 
 -- After the move the side that was left gets no call.
 
-no_puts : (size : ℕ) (items : List Item) → copies_of items ≡ [] → flat_map (there_of size) items ≡ []
+pub no_puts : (size : ℕ) (items : List Item) → copies_of items ≡ [] → flat_map (there_of size) items ≡ []
 no_puts size [] none = refl
 no_puts size (Served p ∷ items) none = no_puts size items none
 no_puts size (Crossed c ∷ items) none = absurd cc
 
-other_side : {X : Type 0} (k : Side) (a b : X) → by_side (opposite k) k a b ≡ b
+pub other_side : {X : Type 0} (k : Side) (a b : X) → by_side (opposite k) k a b ≡ b
 other_side Source a b = refl
 other_side Destination a b = refl
 

@@ -1,7 +1,9 @@
-use Rattle.std.proofs.Common.{◌∙◌, ℕ, ap, subst}
+use Rattle.std.proofs.Common.{◌≡◌, ◌∙◌, ℕ, true, ap, sym, subst}
+use Rattle.manager.specs.declared.manager.MovePhase.TheVariants.{Begun}
+use Rattle.session.specs.Place.{IsReady, IsWaiting}
 use Rattle.session.specs.Moves.{Tries, both, owed_by}
-use Rattle.manager.specs.Move.{ManagerState}
-use Rattle.session.specs.Sides.{SessionState}
+use Rattle.manager.specs.Move.{ManagerState, with_all}
+use Rattle.session.specs.Sides.{SessionState, machine_of, move_set}
 use Rattle.session.proofs.MoveLemmas.{brought, fits, may_cut_over}
 use Rattle.session.proofs.session.Session.cut_over.Goals as goal
 
@@ -16,6 +18,8 @@ cut_over-requires-clause-fits g c = λ names. (
 
 pub returns-clause-tried : goal.returns-clause-tried
 returns-clause-tried g c = rw (← c.self.view_is)
-    (subst (λ (n : ℕ). Tries g.M.Medium.state g.M.Medium.moves c.self.inside.script n (owed_by c.self.inside.manager) c.cut_over.result (both c.args.at.now c.args.to.now) (both c.cut_over.new.at c.cut_over.new.to)) c.from.ensures
-    (brought g.M.Medium.state g.M.Medium.moves c.from.result c.cut_over.ensures.0 c.cut_over.new.at c.cut_over.new.to c.self.inside.manager c.cut_over.result c.requires.ready.script.head c.requires.ready.place c.requires.waits.at
-    (rw c.self.view_is (ap (λ (s : SessionState). s.manager) c.self.view_is ∙ c.requires.begun)) c.cut_over.ensures.1))
+    (let ready = subst (λ (s : SessionState). IsReady s.script (machine_of s c.args.at.now)) (sym c.self.view_is) c.requires.ready in
+    let waits = subst (λ (s : SessionState). IsWaiting s.script c.args.to.now) (sym c.self.view_is) c.requires.waits in
+    let begun = subst (λ (s : SessionState). s.manager ≡ with_all true Begun (move_set s.script.head)) (sym c.self.view_is) c.requires.begun in
+    subst (λ (n : ℕ). Tries g.M.Medium.state g.M.Medium.moves c.self.inside.script n (owed_by c.self.inside.manager) c.cut_over.result (both c.args.at.now c.args.to.now) (both c.cut_over.new.at c.cut_over.new.to)) c.from.ensures
+    (brought g.M.Medium.state g.M.Medium.moves c.from.result c.cut_over.ensures.0 c.cut_over.new.at c.cut_over.new.to c.self.inside.manager c.cut_over.result ready.script.head ready.place waits.at begun c.cut_over.ensures.1))
