@@ -12,6 +12,8 @@ mod port;
 mod round;
 mod side;
 mod steps;
+#[cfg(test)]
+mod tests;
 mod work;
 
 pub use adm_values::{AdminCmd, AdminCpl, What};
