@@ -20,7 +20,7 @@ use Rattle.manager.specs.Asks.{Ask, Asked, log_asks}
 use Rattle.manager.specs.Asks.Ask.{Take as AskTake}
 use Rattle.manager.specs.Port.{IsPortCall, PortCall, PortState, SideState, with_controller}
 use Rattle.manager.specs.Port.PortCall.{Take}
-use Rattle.manager.specs.Round.{Drained, DrainsAll, EndsRound, GoesOn, HasTurned, IsLogged, LogsOn, Settles, StartsLog, after_round}
+use Rattle.manager.specs.Round.{CreatesLog, IsUnlogged, Drained, DrainsAll, EndsRound, GoesOn, HasTurned, IsLogged, LogsOn, Settles, StartsLog, after_round}
 use Rattle.manager.proofs.AskLemmas.{asked_call, asked_more, asked_none}
 
 -- Changes are taken, one after another.
@@ -131,8 +131,29 @@ controlled old is = is ∙ ap (λ (s : SideState). with_controller s.controller 
 controlled_more : (old mid new : SideState) → mid ≡ with_controller mid.controller old → new ≡ with_controller new.controller mid → new ≡ with_controller new.controller old
 controlled_more old mid new first second = second ∙ ap (with_controller new.controller) first
 
-module _ {I : Type 0} {moves : I → PortCall → I → Type 0} {p0 p1 p2 p3 p4 : PortState I} {b1 n1 b2 n2 b3 n3 b4 n4 : List ℕ} {cpl cpl2 cpl3 cpl4 : AdminCpl} (cells : ℕ) (logged : IsLogged cells p0.from)
-    (s1 : Sends moves From (LogUserData true 1) b1 cpl n1 p0 p1) (not_done : cpl.status ≡ success → ⊥) (s2 : Sends moves From (DeleteQueue 1) b2 cpl2 n2 p1 p2) (s3 : Sends moves From (CreateQueue cells) b3 cpl3 n3 p2 p3) (s4 : Sends moves From (LogUserData true 1) b4 cpl4 n4 p3 p4) where
+pub creates_log : {I : Type 0} {moves : I → PortCall → I → Type 0} {p q r : PortState I} {b1 n1 b2 n2 : List ℕ} {cpl cpl2 : AdminCpl} (cells : ℕ) → IsUnlogged cells p.from →
+    Sends moves From (CreateQueue cells) b1 cpl n1 p q → Sends moves From (LogUserData true 1) b2 cpl2 n2 q r → CreatesLog moves cells p r
+creates_log {p = p} {q} {r} cells unlogged s t =
+    let made : IsCreated p.from.controller q.from.controller = subst (IsCreated p.from.controller) (sym (ap (λ (x : SideState). x.controller) s.sides.0))
+    (created _ _ _ _ s.result unlogged.0 (eq-eqb cells (length p.from.controller.queue.cells) (sym unlogged.1)) s.does.0) in
+    let on : r.from.controller ≡ record q.from.controller { logging = true } = ap (λ (x : SideState). x.controller) t.sides.0 ∙ started _ _ _ _ t.result made.live made.unmarked t.does.0 in
+    let queue : r.from.controller.queue ≡ q.from.controller.queue = ap (λ (c : ControllerState). c.queue) on in
+    record {
+      asked = asked_more s.asked t.asked;
+      logs = record {
+        empty = subst (λ (x : QueueState). IsLog x [] 0) (sym queue) made.empty;
+        live = ap (λ (x : QueueState). x.live) queue ∙ made.live;
+        unmarked = ap (λ (x : QueueState). x.marked) queue ∙ made.unmarked;
+        size = ap (λ (x : QueueState). length x.cells) queue ∙ made.size;
+        others = on ∙ ap (λ (c : ControllerState). record c { logging = true }) made.others ∙ ap (λ (x : QueueState). record p.from.controller { queue = x; logging = true }) (sym queue);
+      };
+      from_is = controlled_more p.from q.from r.from (controlled p.from s.sides.0) (controlled q.from t.sides.0);
+      to_is = t.sides.1 ∙ s.sides.1;
+    }
+
+-- where a change was lost, the queue is deleted first
+module _ {I : Type 0} {moves : I → PortCall → I → Type 0} {p0 p1 p2 : PortState I} {b1 n1 b2 n2 : List ℕ} {cpl cpl2 : AdminCpl} (cells : ℕ) (logged : IsLogged cells p0.from)
+    (s1 : Sends moves From (LogUserData true 1) b1 cpl n1 p0 p1) (not_done : cpl.status ≡ success → ⊥) (s2 : Sends moves From (DeleteQueue 1) b2 cpl2 n2 p1 p2) where
   first : (p0.from.controller.queue.marked ≡ true) × (s1.controller ≡ p0.from.controller)
   first = full _ _ _ _ s1.result cpl logged.0 s1.told not_done s1.does.0
 
@@ -142,34 +163,22 @@ module _ {I : Type 0} {moves : I → PortCall → I → Type 0} {p0 p1 p2 p3 p4 
   c2 : p2.from.controller ≡ gone p0.from.controller
   c2 = ap (λ (s : SideState). s.controller) s2.sides.0 ∙ deleted _ _ _ s2.result (ap (λ (c : ControllerState). c.queue.live) c1 ∙ logged.0) s2.does.0 ∙ ap gone c1
 
-  c3 : IsCreated p2.from.controller p3.from.controller
-  c3 =
-      let size : length p2.from.controller.queue.cells ≡ cells = ap (λ (c : ControllerState). length c.queue.cells) c2 ∙ logged.1 in
-      let made = created _ _ _ _ s3.result (ap (λ (c : ControllerState). c.queue.live) c2) (eq-eqb cells (length p2.from.controller.queue.cells) (sym size)) s3.does.0 in
-      subst (IsCreated p2.from.controller) (sym (ap (λ (s : SideState). s.controller) s3.sides.0)) made
+  pub unlogged : IsUnlogged cells p2.from
+  unlogged = (ap (λ (c : ControllerState). c.queue.live) c2, ap (λ (c : ControllerState). length c.queue.cells) c2 ∙ logged.1)
 
-  c4 : p4.from.controller ≡ record p3.from.controller { logging = true }
-  c4 = ap (λ (s : SideState). s.controller) s4.sides.0 ∙ started _ _ _ _ s4.result c3.live c3.unmarked s4.does.0
-
-  queue_4 : p4.from.controller.queue ≡ p3.from.controller.queue
-  queue_4 = ap (λ (c : ControllerState). c.queue) c4
-
-  pub log_anew : StartsLog moves cells true p0 p4
-  log_anew = record {
-    asked = asked_more s1.asked (asked_more s2.asked (asked_more s3.asked s4.asked));
+  pub log_anew : {p3 : PortState I} → CreatesLog moves cells p2 p3 → StartsLog moves cells true p0 p3
+  log_anew {p3} t = record {
+    asked = asked_more s1.asked (asked_more s2.asked t.asked);
     marked = first.0;
     logs = record {
-      empty = subst (λ (q : QueueState). IsLog q [] 0) (sym queue_4) c3.empty;
-      live = ap (λ (q : QueueState). q.live) queue_4 ∙ c3.live;
-      unmarked = ap (λ (q : QueueState). q.marked) queue_4 ∙ c3.unmarked;
-      size = ap (λ (q : QueueState). length q.cells) queue_4 ∙ c3.size ∙ ap (λ (c : ControllerState). length c.queue.cells) c2;
-      others = c4 ∙ ap (λ (c : ControllerState). record c { logging = true }) c3.others ∙ ap (λ (c : ControllerState). record c { queue = p3.from.controller.queue; logging = true }) c2
-          ∙ ap (λ (q : QueueState). record p0.from.controller { queue = q; logging = true }) (sym queue_4);
+      empty = t.logs.empty;
+      live = t.logs.live;
+      unmarked = t.logs.unmarked;
+      size = t.logs.size ∙ ap (λ (c : ControllerState). length c.queue.cells) c2;
+      others = t.logs.others ∙ ap (λ (c : ControllerState). record c { queue = p3.from.controller.queue; logging = true }) c2;
     };
-    from_is = controlled_more p0.from p3.from p4.from
-        (controlled_more p0.from p2.from p3.from (controlled_more p0.from p1.from p2.from (controlled p0.from s1.sides.0) (controlled p1.from s2.sides.0)) (controlled p2.from s3.sides.0))
-        (controlled p3.from s4.sides.0);
-    to_is = s4.sides.1 ∙ s3.sides.1 ∙ s2.sides.1 ∙ s1.sides.1;
+    from_is = controlled_more p0.from p2.from p3.from (controlled_more p0.from p1.from p2.from (controlled p0.from s1.sides.0) (controlled p1.from s2.sides.0)) t.from_is;
+    to_is = t.to_is ∙ s2.sides.1 ∙ s1.sides.1;
   }
 
 -- A round is ended.

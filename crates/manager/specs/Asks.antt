@@ -86,9 +86,12 @@ take_asks changes = map (λ (c : Change). Take (Some c)) changes ++ Take None �
 abbrev pub start_ask : Ask
 start_ask = Admin From (command (LogUserData true 1))
 
+abbrev pub create_asks : ℕ → List Ask
+create_asks cells = Admin From (command (CreateQueue cells)) ∷ start_ask ∷ []
+
 abbrev pub log_asks : Bool → ℕ → List Ask
 log_asks false cells = start_ask ∷ []
-log_asks true cells = start_ask ∷ Admin From (command (DeleteQueue 1)) ∷ Admin From (command (CreateQueue cells)) ∷ start_ask ∷ []
+log_asks true cells = start_ask ∷ Admin From (command (DeleteQueue 1)) ∷ create_asks cells
 
 -- and all these pages are copied.
 abbrev pub round_asks : List Change → Bool → ℕ → List ℕ → List Ask

@@ -5,7 +5,7 @@ use Rattle.data_queue.specs.Log.{IsLog, QueueState}
 use Rattle.ctl_state.specs.Controller.{ControllerState}
 use Rattle.manager.specs.declared.manager.After.{After}
 use Rattle.manager.specs.declared.manager.After.TheVariants.{Go, CutOver, Fault}
-use Rattle.manager.specs.Asks.{Asked, log_asks, round_asks, take_asks}
+use Rattle.manager.specs.Asks.{create_asks, Asked, log_asks, round_asks, take_asks}
 use Rattle.manager.specs.Asks.Ask.{Take}
 use Rattle.manager.specs.Move.{IsDue, ManagerState, work_in}
 use Rattle.manager.specs.Owed.{places_of}
@@ -17,6 +17,10 @@ use Rattle.manager.specs.Work.{Draws, owe_changes}
 -- a side whose controller has a live queue of so many cells
 abbrev pub IsLogged : ℕ → SideState → Type 0
 IsLogged cells side = (side.controller.queue.live ≡ true) × (length side.controller.queue.cells ≡ cells)
+
+-- or with no live queue, made for so many
+abbrev pub IsUnlogged : ℕ → SideState → Type 0
+IsUnlogged cells side = (side.controller.queue.live ≡ false) × (length side.controller.queue.cells ≡ cells)
 
 -- These changes were taken from the source's queue, in their order, and of both sides nothing else changed.
 pub record Drained {I : Type 0} (moves : I → PortCall → I → Type 0) (changes : List Change) (old new : PortState I) : Type 0 where
@@ -48,6 +52,13 @@ pub record LogsAnew (old new : ControllerState) : Type 0 where
 abbrev pub LogsOn : Bool → ControllerState → ControllerState → Type 0
 LogsOn false old new = new ≡ record old { logging = true }
 LogsOn true old new = LogsAnew old new
+
+-- a queue was made at the source, whose changes are logged into it
+pub record CreatesLog {I : Type 0} (moves : I → PortCall → I → Type 0) (cells : ℕ) (old new : PortState I) : Type 0 where
+  pub asked : Asked moves (create_asks cells) old new
+  pub logs : LogsAnew old.from.controller new.from.controller
+  pub from_is : new.from ≡ with_controller new.from.controller old.from
+  pub to_is : new.to ≡ old.to
 
 -- logging was started at the source, whose queue says by its mark whether a change was lost
 pub record StartsLog {I : Type 0} (moves : I → PortCall → I → Type 0) (cells : ℕ) (lost : Bool) (old new : PortState I) : Type 0 where
@@ -106,3 +117,8 @@ GoesOn restarted (Fault side) m n = ⊥
 abbrev pub HasTurned : {I : Type 0} → (I → PortCall → I → Type 0) → After → ManagerState → PortState I → ManagerState → PortState I → Type 0
 HasTurned moves (Fault side) m p n q = (m.failed ≡ Some side) × (n ≡ m) × (q ≡ p)
 HasTurned moves after m p n q = (m.failed ≡ None) × (restarted : Bool) × (blocks : List Bool) × EndsRound moves m restarted blocks p q × GoesOn restarted after (after_round blocks m) n
+
+-- A move begins with this manager: the first turn's blocks are drawn, unless the cutover is due.
+abbrev pub BeginsSo : Bool → ManagerState → ManagerState → Type 0
+BeginsSo true m n = IsDue m × (n ≡ m)
+BeginsSo false m n = (IsDue m → ⊥) × Draws (work_in m) (work_in n) × (n ≡ record m { blocks = n.blocks; due = n.due; busy = [] })

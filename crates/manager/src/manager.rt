@@ -1,12 +1,13 @@
 ghost use Rattle.std.specs.Prelude.{◌≡◌, ◌^◌, ◌<◌, ◌≤◌, ◌↔◌, [], IfOk, IsTrue, None, false, length, true};
 ghost use Rattle.manager.specs.Asks.{Asked};
 ghost use Rattle.manager.specs.Move.{Covers, Fits, HasCut, IsCutOver, IsDue, IsGivenUp, IsMoveSet, IsOn, IsSource, MayCutOver, SidesAfter, Spends, give_up_asks, with_all, with_work, work_in};
-ghost use Rattle.manager.specs.Round.{GoesOn, HasTurned, IsLogged};
+ghost use Rattle.manager.specs.Round.{BeginsSo, CreatesLog, GoesOn, HasTurned, IsLogged, IsUnlogged};
 ghost use Rattle.manager.specs.Work.{DoesAll, DoesOne, HasWork, Tried, again, at_work};
 ghost use Rattle.manager.specs.declared.manager.MovePhase.TheVariants.{New, Begun, GivenUp};
 
 use crate::owed::Owed;
 use crate::port::{Port, WorkPort};
+use crate::round::create_log;
 use crate::side::Side;
 use crate::steps::{copy_pages, hand_over, resume, suspend};
 use crate::work::Work;
@@ -134,6 +135,25 @@ impl Manager {
         self.pages.owe_all();
         self.rounds = 0;
         self.is_due()
+    }
+
+    /// Begins over a port, to move in rounds: the source's queue of changes is made and logged into. All blocks and all pages are
+    /// owed, and the first turn's blocks are drawn, unless the cutover is due. Answers whether it is. It needs what `cut_over`
+    /// needs of the port's size and of the calls that are left, and a source that was made for as many cells and has no live
+    /// queue.
+    pub fn begin_over<P: Port>(&mut self, port: &mut P) -> bool
+        requires phase { self.old.phase ≡ New }
+        requires fits { Fits self.old (P.state port.old) }
+        requires source { IsUnlogged self.old.set.cells (P.state port.old).from }
+        ensures created { CreatesLog P.moves self.old.set.cells (P.state port.old) (P.state port.new) }
+        ensures began { BeginsSo result (with_all true Begun self.old.set) self.new }
+    {
+        create_log(self.set.cells, port);
+        let due = self.begin();
+        if !due {
+            self.work.draw();
+        }
+        due
     }
 
     fn is_due(&self) -> bool

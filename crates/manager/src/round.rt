@@ -2,7 +2,7 @@
 ghost use Rattle.std.specs.Prelude.{◌≡◌, ◌≤◌, List, length, replicate, true};
 ghost use Rattle.data_queue.specs.declared.change.Change.{Change as TheChange};
 ghost use Rattle.manager.specs.Move.{IsQuiet};
-ghost use Rattle.manager.specs.Round.{DrainsAll, IsLogged, StartsLog};
+ghost use Rattle.manager.specs.Round.{CreatesLog, DrainsAll, IsLogged, IsUnlogged, StartsLog};
 ghost use Rattle.manager.specs.Work.{owe_changes};
 
 use crate::owed::Owed;
@@ -14,6 +14,12 @@ use nvm_values::Status;
 
 /// The number of the queue of changes.
 const QUEUE: u16 = 1;
+
+/// The command that starts logging.
+const START: What = What::LogUserData {
+    start: true,
+    queue: QUEUE,
+};
 
 /// Takes all changes that aren't taken: their blocks are owed.
 pub(crate) fn take_all<P: Port>(owed: &mut Owed, port: &mut P)
@@ -30,6 +36,18 @@ pub(crate) fn take_all<P: Port>(owed: &mut Owed, port: &mut P)
     }
 }
 
+/// Makes the source's queue of changes, of so many cells, and starts logging into it.
+pub(crate) fn create_log<P: Port>(cells: u32, port: &mut P)
+    requires cells { (2 ≤ cells) × (cells ≤ 65536) }
+    requires left { 2 ≤ (P.state port.old).left }
+    requires quiet { IsQuiet (P.state port.old).from }
+    requires unlogged { IsUnlogged cells (P.state port.old).from }
+    ensures { CreatesLog P.moves cells (P.state port.old) (P.state port.new) }
+{
+    let _made = send(Side::From, What::CreateQueue { cells }, &mut [], port);
+    let _started = send(Side::From, START, &mut [], port);
+}
+
 /// Starts logging at the source, and answers whether a change was lost before. Then its queue is made anew, of so many cells.
 pub(crate) fn start_log<P: Port>(cells: u32, port: &mut P) -> bool
     requires cells { (2 ≤ cells) × (cells ≤ 65536) }
@@ -38,11 +56,7 @@ pub(crate) fn start_log<P: Port>(cells: u32, port: &mut P) -> bool
     requires logged { IsLogged cells (P.state port.old).from }
     ensures { StartsLog P.moves cells result (P.state port.old) (P.state port.new) }
 {
-    let start = What::LogUserData {
-        start: true,
-        queue: QUEUE,
-    };
-    if send(Side::From, start, &mut [], port).status == Status::SUCCESS {
+    if send(Side::From, START, &mut [], port).status == Status::SUCCESS {
         return false;
     }
     let _gone = send(
@@ -51,7 +65,6 @@ pub(crate) fn start_log<P: Port>(cells: u32, port: &mut P) -> bool
         &mut [],
         port,
     );
-    let _made = send(Side::From, What::CreateQueue { cells }, &mut [], port);
-    let _started = send(Side::From, start, &mut [], port);
+    create_log(cells, port);
     true
 }
