@@ -20,7 +20,7 @@ use Rattle.manager.specs.Asks.{Ask, Asked, log_asks}
 use Rattle.manager.specs.Asks.Ask.{Take as AskTake}
 use Rattle.manager.specs.Port.{IsPortCall, PortCall, PortState, SideState, with_controller}
 use Rattle.manager.specs.Port.PortCall.{Take}
-use Rattle.manager.specs.Round.{CreatesLog, IsUnlogged, Drained, DrainsAll, EndsRound, GoesOn, HasTurned, IsLogged, LogsOn, Settles, StartsLog, after_round}
+use Rattle.manager.specs.Round.{CreatesLog, EndsLog, IsUnlogged, unlogged, Drained, DrainsAll, EndsRound, GoesOn, HasTurned, IsLogged, LogsOn, Settles, StartsLog, after_round}
 use Rattle.manager.proofs.AskLemmas.{asked_call, asked_more, asked_none}
 
 -- Changes are taken, one after another.
@@ -112,10 +112,7 @@ started true true old new result is not does = absurd cc
 started true false old new result is not does = does.1
 started false marked old new result is not does = absurd cc
 
-abbrev gone : ControllerState → ControllerState
-gone c = record c { queue = record c.queue { live = false }; logging = false }
-
-deleted : (live : Bool) (old new : ControllerState) (result : AdminResult) → live ≡ true → MatchBool (live && (1 == 1)) (Becomes (gone old) result new) (Refuses BadDataQueue old result new) → new ≡ gone old
+deleted : (live : Bool) (old new : ControllerState) (result : AdminResult) → live ≡ true → MatchBool (live && (1 == 1)) (Becomes (unlogged old) result new) (Refuses BadDataQueue old result new) → new ≡ (unlogged old)
 deleted true old new result is does = does.1
 deleted false old new result is does = absurd cc
 
@@ -160,11 +157,11 @@ module _ {I : Type 0} {moves : I → PortCall → I → Type 0} {p0 p1 p2 : Port
   c1 : p1.from.controller ≡ p0.from.controller
   c1 = ap (λ (s : SideState). s.controller) s1.sides.0 ∙ first.1
 
-  c2 : p2.from.controller ≡ gone p0.from.controller
-  c2 = ap (λ (s : SideState). s.controller) s2.sides.0 ∙ deleted _ _ _ s2.result (ap (λ (c : ControllerState). c.queue.live) c1 ∙ logged.0) s2.does.0 ∙ ap gone c1
+  c2 : p2.from.controller ≡ unlogged p0.from.controller
+  c2 = ap (λ (s : SideState). s.controller) s2.sides.0 ∙ deleted _ _ _ s2.result (ap (λ (c : ControllerState). c.queue.live) c1 ∙ logged.0) s2.does.0 ∙ ap unlogged c1
 
-  pub unlogged : IsUnlogged cells p2.from
-  unlogged = (ap (λ (c : ControllerState). c.queue.live) c2, ap (λ (c : ControllerState). length c.queue.cells) c2 ∙ logged.1)
+  pub none_live : IsUnlogged cells p2.from
+  none_live = (ap (λ (c : ControllerState). c.queue.live) c2, ap (λ (c : ControllerState). length c.queue.cells) c2 ∙ logged.1)
 
   pub log_anew : {p3 : PortState I} → CreatesLog moves cells p2 p3 → StartsLog moves cells true p0 p3
   log_anew {p3} t = record {
@@ -180,6 +177,19 @@ module _ {I : Type 0} {moves : I → PortCall → I → Type 0} {p0 p1 p2 : Port
     from_is = controlled_more p0.from p2.from p3.from (controlled_more p0.from p1.from p2.from (controlled p0.from s1.sides.0) (controlled p1.from s2.sides.0)) t.from_is;
     to_is = t.to_is ∙ s2.sides.1 ∙ s1.sides.1;
   }
+
+-- Logging ends.
+pub ends_log : {I : Type 0} {moves : I → PortCall → I → Type 0} {p q r : PortState I} {b1 n1 b2 n2 : List ℕ} {cpl cpl2 : AdminCpl} → p.from.controller.queue.live ≡ true →
+    Sends moves From (LogUserData false 1) b1 cpl n1 p q → Sends moves From (DeleteQueue 1) b2 cpl2 n2 q r → EndsLog moves p r
+ends_log {p = p} {q} {r} live s t =
+    let off : q.from.controller ≡ record p.from.controller { logging = false } = ap (λ (x : SideState). x.controller) s.sides.0 ∙ s.does.0.1 in
+    let none : r.from.controller ≡ unlogged p.from.controller
+    = ap (λ (x : SideState). x.controller) t.sides.0 ∙ deleted _ _ _ t.result (ap (λ (c : ControllerState). c.queue.live) off ∙ live) t.does.0 ∙ ap unlogged off in
+    record {
+      asked = asked_more s.asked t.asked;
+      from_is = controlled_more p.from q.from r.from (controlled p.from s.sides.0) (controlled q.from t.sides.0) ∙ ap (λ (c : ControllerState). with_controller c p.from) none;
+      to_is = t.sides.1 ∙ s.sides.1;
+    }
 
 -- A round is ended.
 

@@ -93,6 +93,10 @@ abbrev pub log_asks : Bool → ℕ → List Ask
 log_asks false cells = start_ask ∷ []
 log_asks true cells = start_ask ∷ Admin From (command (DeleteQueue 1)) ∷ create_asks cells
 
+-- logging ends, and with it the queue, where the move is given up;
+abbrev pub end_log_asks : List Ask
+end_log_asks = Admin From (command (LogUserData false 1)) ∷ Admin From (command (DeleteQueue 1)) ∷ []
+
 -- and all these pages are copied.
 abbrev pub round_asks : List Change → Bool → ℕ → List ℕ → List Ask
 round_asks changes restarted cells pages = take_asks changes ++ (log_asks restarted cells ++ page_asks pages)

@@ -2,10 +2,11 @@ use Rattle.std.specs.Prelude.{◌≡◌, ◌⊎◌, ℕ, ◌+◌, ◌≤◌, Boo
 use Rattle.std.specs.List.{range_with_len}
 use Rattle.data_queue.specs.declared.change.Change.{Change}
 use Rattle.data_queue.specs.Log.{IsLog, QueueState}
+use Rattle.ctl_state.specs.declared.phase.Phase.TheVariants as phase
 use Rattle.ctl_state.specs.Controller.{ControllerState}
 use Rattle.manager.specs.declared.manager.After.{After}
 use Rattle.manager.specs.declared.manager.After.TheVariants.{Go, CutOver, Fault}
-use Rattle.manager.specs.Asks.{create_asks, Asked, log_asks, round_asks, take_asks}
+use Rattle.manager.specs.Asks.{create_asks, end_log_asks, Asked, log_asks, round_asks, take_asks}
 use Rattle.manager.specs.Asks.Ask.{Take}
 use Rattle.manager.specs.Move.{IsDue, ManagerState, work_in}
 use Rattle.manager.specs.Owed.{places_of}
@@ -122,3 +123,18 @@ HasTurned moves after m p n q = (m.failed ≡ None) × (restarted : Bool) × (bl
 abbrev pub BeginsSo : Bool → ManagerState → ManagerState → Type 0
 BeginsSo true m n = IsDue m × (n ≡ m)
 BeginsSo false m n = (IsDue m → ⊥) × Draws (work_in m) (work_in n) × (n ≡ record m { blocks = n.blocks; due = n.due; busy = [] })
+
+-- a controller without a live queue, which doesn't log
+abbrev pub unlogged : ControllerState → ControllerState
+unlogged c = record c { queue = record c.queue { live = false }; logging = false }
+
+-- logging ended at the source, and its queue was deleted
+pub record EndsLog {I : Type 0} (moves : I → PortCall → I → Type 0) (old new : PortState I) : Type 0 where
+  pub asked : Asked moves end_log_asks old new
+  pub from_is : new.from ≡ with_controller (unlogged old.from.controller) old.from
+  pub to_is : new.to ≡ old.to
+
+-- The source runs as it was, without a live queue, and the destination stays.
+pub record IsGivenUpOver {I : Type 0} (old new : PortState I) : Type 0 where
+  pub from : new.from ≡ with_controller (record (unlogged old.from.controller) { phase = phase.Running }) old.from
+  pub to : new.to ≡ old.to

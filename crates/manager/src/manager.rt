@@ -1,13 +1,13 @@
-ghost use Rattle.std.specs.Prelude.{◌≡◌, ◌^◌, ◌<◌, ◌≤◌, ◌↔◌, [], IfOk, IsTrue, None, false, length, true};
-ghost use Rattle.manager.specs.Asks.{Asked};
+ghost use Rattle.std.specs.Prelude.{◌≡◌, ◌^◌, ◌<◌, ◌≤◌, ◌↔◌, [], ◌++◌, IfOk, IsTrue, None, false, length, true};
+ghost use Rattle.manager.specs.Asks.{Asked, end_log_asks};
 ghost use Rattle.manager.specs.Move.{Covers, Fits, HasCut, IsCutOver, IsDue, IsGivenUp, IsMoveSet, IsOn, IsSource, MayCutOver, SidesAfter, Spends, give_up_asks, with_all, with_work, work_in};
-ghost use Rattle.manager.specs.Round.{BeginsSo, CreatesLog, GoesOn, HasTurned, IsLogged, IsUnlogged};
+ghost use Rattle.manager.specs.Round.{BeginsSo, CreatesLog, GoesOn, HasTurned, IsGivenUpOver, IsLogged, IsUnlogged};
 ghost use Rattle.manager.specs.Work.{DoesAll, DoesOne, HasWork, Tried, again, at_work};
 ghost use Rattle.manager.specs.declared.manager.MovePhase.TheVariants.{New, Begun, GivenUp};
 
 use crate::owed::Owed;
 use crate::port::{Port, WorkPort};
-use crate::round::create_log;
+use crate::round::{create_log, end_log};
 use crate::side::Side;
 use crate::steps::{copy_pages, hand_over, resume, suspend};
 use crate::work::Work;
@@ -289,6 +289,25 @@ impl Manager {
         ensures manager { self.new ≡ record self.old { phase = GivenUp } }
         ensures left { Spends (P.state port.old) (P.state port.new) }
     {
+        match self.phase {
+            MovePhase::Stopped => resume(Side::From, t, port),
+            _ => port.mark(3 * t + 2),
+        }
+        self.phase = MovePhase::GivenUp;
+    }
+    /// Gives up a move that began over a port, after turn `t`: logging ends, the source's queue is deleted, and the source goes on.
+    /// It needs what `give_up` needs, and a live queue at the source.
+    pub fn give_up_over<P: Port>(&mut self, t: u64, port: &mut P)
+        requires turn { (t < 2 ^ 62) × IsOn self.old.phase }
+        requires fits { Fits self.old (P.state port.old) }
+        requires source { IsSource self.old.phase (P.state port.old).from }
+        requires logged { IsLogged self.old.set.cells (P.state port.old).from }
+        ensures asked { Asked P.moves (end_log_asks ++ give_up_asks self.old.phase t) (P.state port.old) (P.state port.new) }
+        ensures sides { IsGivenUpOver (P.state port.old) (P.state port.new) }
+        ensures manager { self.new ≡ record self.old { phase = GivenUp } }
+        ensures left { Spends (P.state port.old) (P.state port.new) }
+    {
+        end_log(port);
         match self.phase {
             MovePhase::Stopped => resume(Side::From, t, port),
             _ => port.mark(3 * t + 2),

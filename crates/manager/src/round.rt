@@ -2,7 +2,7 @@
 ghost use Rattle.std.specs.Prelude.{◌≡◌, ◌≤◌, List, length, replicate, true};
 ghost use Rattle.data_queue.specs.declared.change.Change.{Change as TheChange};
 ghost use Rattle.manager.specs.Move.{IsQuiet};
-ghost use Rattle.manager.specs.Round.{CreatesLog, DrainsAll, IsLogged, IsUnlogged, StartsLog};
+ghost use Rattle.manager.specs.Round.{CreatesLog, DrainsAll, EndsLog, IsLogged, IsUnlogged, StartsLog};
 ghost use Rattle.manager.specs.Work.{owe_changes};
 
 use crate::owed::Owed;
@@ -67,4 +67,24 @@ pub(crate) fn start_log<P: Port>(cells: u32, port: &mut P) -> bool
     );
     create_log(cells, port);
     true
+}
+
+/// Ends logging at the source, and deletes its queue of changes.
+pub(crate) fn end_log<P: Port>(port: &mut P)
+    requires left { 2 ≤ (P.state port.old).left }
+    requires quiet { IsQuiet (P.state port.old).from }
+    requires live { (P.state port.old).from.controller.queue.live ≡ true }
+    ensures { EndsLog P.moves (P.state port.old) (P.state port.new) }
+{
+    let stop = What::LogUserData {
+        start: false,
+        queue: QUEUE,
+    };
+    let _stopped = send(Side::From, stop, &mut [], port);
+    let _gone = send(
+        Side::From,
+        What::DeleteQueue { queue: QUEUE },
+        &mut [],
+        port,
+    );
 }
