@@ -190,10 +190,11 @@ impl Manager {
         self.work.all(port);
     }
 
-    /// Copies the blocks of this turn whose shelf was busy, each with its takes, until one fails. It takes a call of the port for
-    /// each at most.
+    /// Copies the blocks of this turn whose shelf was busy, each with its takes, until one fails; all others were tried. It takes a
+    /// call of the port for each at most.
     pub fn turn_rest<P: Port>(&mut self, port: &mut P)
-        requires { (length self.old.busy ≤ (P.work port.old).left) × (self.old.set.blocks ≡ (P.work port.old).count) }
+        requires tried { HasWork false (work_in self.old) }
+        requires port { (length self.old.busy ≤ (P.work port.old).left) × (self.old.set.blocks ≡ (P.work port.old).count) }
         ensures does { DoesAll P.works (at_work (again (work_in self.old)) (P.work port.old)) (at_work (work_in self.new) (P.work port.new)) }
         ensures none { self.new.busy ≡ [] }
         ensures rest { self.new ≡ with_work (work_in self.new) self.old }
