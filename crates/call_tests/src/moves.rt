@@ -133,6 +133,7 @@ fn transcript(alloc: Global, parts: [&str; 3]) -> Result<Vec<u8>, AllocError> {
 
 /// The marks of a pause after turn 1: three times its number, and 1 more where the guests are suspended, 2 where they go on.
 const SUSPENDED: Step = Step::Mark(4);
+
 const GONE_ON: Step = Step::Mark(5);
 
 /// The source's calls: the write before the move, and each block read once, between two marks.
@@ -199,13 +200,7 @@ const STAYED_CALLS: [Step; 10] = [
 ];
 
 /// The destination's: the same marks, and none behind them.
-const STOPPED_CALLS: [Step; 5] = [
-    SUSPENDED,
-    Step::Put(0),
-    Step::Put(1),
-    Step::Put(2),
-    GONE_ON,
-];
+const STOPPED_CALLS: [Step; 5] = [SUSPENDED, Step::Put(0), Step::Put(1), Step::Put(2), GONE_ON];
 
 /// Each block is read and written once, and then the guest's own calls come to the destination alone.
 #[test]

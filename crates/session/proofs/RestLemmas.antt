@@ -140,7 +140,7 @@ pub few_turns : {M : Type 0} {s : Script} {m : Machine M} → IsReady s m → to
 few_turns {s = s} {m} ready =
     let each : (j : ℕ) (d : LaneRun) → 1 ≤ j → j < 1 + length m.runs → run_work (slice_index_or m.runs (j - 1) d) (pair_of m.place.controller j) ≤ 262400 =
     λ j d first there.
-        let few : j ≤ s.head.lanes = omega (arith, there, ready.runs.count) in
-        lane_few (ready.runs.each j d first few) (set_fits s.head j ready.script.head first few) (ready.stands.lanes.each j d (new_lane 0) first few) (quiet_at m.place.controller ready.quiet j) in
+    let few : j ≤ s.head.lanes = omega (arith, there, ready.runs.count) in
+    lane_few (ready.runs.each j d first few) (set_fits s.head j ready.script.head first few) (ready.stands.lanes.each j d (new_lane 0) first few) (quiet_at m.place.controller ready.quiet j) in
     let all = works_few 262400 1 m.runs m.place.controller each in
     omega (arith, all, ready.runs.count, ready.script.head.lanes.1)

@@ -1,7 +1,7 @@
-use Rattle.std.proofs.Common.{◌≡◌, ℕ, ◌+◌, ◌*◌, ◌<◌, Bool, true, false, List, [], ◌∷◌, ◌++◌, take, refl, sym, ap, subst, ◌∙◌}
+use Rattle.std.proofs.Common.{◌≡◌, ℕ, ◌*◌, ◌<◌, Bool, true, false, List, [], ◌∷◌, ◌++◌, take, refl, sym, ap, subst, ◌∙◌}
 use Rattle.std.specs.List.{flat_map}
 use Rattle.nvm_model.specs.declared.run.RunPhase.{RunPhase}
-use Rattle.nvm_model.specs.declared.run.RunPhase.TheVariants.{New, Running, Moving, Suspended, Stopped, Over}
+use Rattle.nvm_model.specs.declared.run.RunPhase.TheVariants.{Running, Moving, Suspended, Stopped}
 use Rattle.nvm_model.specs.declared.run.Side.{Side}
 use Rattle.nvm_model.specs.declared.run.Side.TheVariants.{Source, Destination}
 use Rattle.nvm_model.specs.declared.script.Script.{Script}
