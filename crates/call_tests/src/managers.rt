@@ -8,7 +8,8 @@ ghost use Rattle.manager.specs.declared.manager.MovePhase.TheVariants.{Begun};
 use controller::{Controller, PairSet, Phase};
 use guest_ram::Ram;
 use manager::{
-    AdminCmd, AdminCpl, Change, CopyAnswer, Manager, MediumFault, MoveSet, Pause, Port, Side, WorkPort,
+    AdminCmd, AdminCpl, Change, CopyAnswer, Manager, MediumFault, MoveSet, Pause, Port, Side,
+    WorkPort,
 };
 use mig_base::OutOfMemory;
 use std::alloc::Global;

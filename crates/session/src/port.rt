@@ -59,6 +59,7 @@ impl<'a, M: Medium, D: Dest> Port for Move<'a, M, D> {
     ghost state = { λ p. port_of M.state (p.at.ghost_name, p.to.ghost_name) p.at.now (D.state p.to.now) };
 
     ghost moves = { moves_port M.state M.moves D.moves };
+
     fn admin(&mut self, side: Side, cmd: &AdminCmd, bytes: &mut [u8]) -> AdminCpl {
         match side {
             Side::From => self.at.admin(cmd, bytes),
