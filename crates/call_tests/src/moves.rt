@@ -131,10 +131,15 @@ fn transcript(alloc: Global, parts: [&str; 3]) -> Result<Vec<u8>, AllocError> {
     joined(alloc, &[first, before, lines, after, "end\n"])
 }
 
+/// The marks of a pause after turn 1: three times its number, and 1 more where the guests are suspended, 2 where they go on.
+const SUSPENDED: Step = Step::Mark(4);
+
+const GONE_ON: Step = Step::Mark(5);
+
 /// The source's calls: the write before the move, and each block read once, between two marks.
 const SOURCE_CALLS: [Step; 19] = [
     Step::Put(3),
-    Step::Mark(1),
+    SUSPENDED,
     Step::Get(0),
     Step::Get(1),
     Step::Get(2),
@@ -151,12 +156,12 @@ const SOURCE_CALLS: [Step; 19] = [
     Step::Get(13),
     Step::Get(14),
     Step::Get(15),
-    Step::Mark(2),
+    GONE_ON,
 ];
 
 /// The destination's: each block written once, between the marks, and then what the guest does there.
 const DESTINATION_CALLS: [Step; 22] = [
-    Step::Mark(1),
+    SUSPENDED,
     Step::Put(0),
     Step::Put(1),
     Step::Put(2),
@@ -173,12 +178,29 @@ const DESTINATION_CALLS: [Step; 22] = [
     Step::Put(13),
     Step::Put(14),
     Step::Put(15),
-    Step::Mark(2),
+    GONE_ON,
     Step::Get(3),
     Step::Put(4),
     Step::Get(3),
     Step::Get(4),
 ];
+
+/// The source's calls where the destination's third put fails: no block is read after it, and the guest goes on there.
+const STAYED_CALLS: [Step; 10] = [
+    Step::Put(3),
+    SUSPENDED,
+    Step::Get(0),
+    Step::Get(1),
+    Step::Get(2),
+    GONE_ON,
+    Step::Get(3),
+    Step::Put(4),
+    Step::Get(3),
+    Step::Get(4),
+];
+
+/// The destination's: the same marks, and none behind them.
+const STOPPED_CALLS: [Step; 5] = [SUSPENDED, Step::Put(0), Step::Put(1), Step::Put(2), GONE_ON];
 
 /// Each block is read and written once, and then the guest's own calls come to the destination alone.
 #[test]
@@ -225,5 +247,19 @@ fn a_failed_put_gives_up(rt: HostRuntime) -> Result<(), Fail> {
     assert!(&rt; left.status == Status::GaveUp && left.output.bytes() == text.as_slice());
     assert!(&rt; block_of(&mut left.from, 1, 14) == Some([0x22; 512]));
     assert!(&rt; block_of(&mut left.to, 1, 14) == Some([0; 512]));
+    Ok(())
+}
+
+/// A move that is given up has the marks of one that isn't, on both sides.
+#[test]
+fn a_move_that_is_given_up_is_marked(rt: HostRuntime) -> Result<(), Fail> {
+    let failing = Given {
+        failing_to_puts: THIRD_PUT,
+        ..ONE_SHELF
+    };
+    let left = run(&rt, rt.alloc(), MOVING, failing)?;
+    assert!(&rt; left.status == Status::GaveUp);
+    assert!(&rt; steps_of(&left.from, 0) == Some(STAYED_CALLS.as_slice()));
+    assert!(&rt; steps_of(&left.to, 0) == Some(STOPPED_CALLS.as_slice()));
     Ok(())
 }

@@ -42,17 +42,16 @@ told_done {piece} {moved} {result} done = record {
 -- what the next piece does to its lane
 pub piece_does : {s : Script} {k pages : ℕ} {commands : List Command} {os : List Outcome} {piece : Piece} (next : IsNext k s.head.shelf s.head.blocks pages commands os piece) (result : PieceResult) (moved memory : List (List ℕ)) (lane : Lane) →
     lane.running ≡ worked s.head.shelf commands os → IsPieceDone piece moved result lane.pages memory →
-    PieceOnLane s (called s piece result lane.pages moved) lane (record lane { pages = memory; running = worked s.head.shelf commands (os ++ result.outcome ∷ []) })
+    PieceOnLane s (called s next.work piece result lane.pages moved) lane (record lane { pages = memory; running = worked s.head.shelf commands (os ++ result.outcome ∷ []) })
 piece_does {s} {k} {pages} {commands} {os} {piece} next result moved memory lane running =
     let job = job_of next.command.cid next.work in
     let after = after_piece next.command next.work result.outcome in
     subst
-    (λ (p : Piece). IsPieceDone p moved result lane.pages memory → PieceOnLane s (called s p result lane.pages moved) lane (record lane { pages = memory; running = worked s.head.shelf commands (os ++ result.outcome ∷ []) }))
+    (λ (p : Piece). IsPieceDone p moved result lane.pages memory → PieceOnLane s (called s next.work p result lane.pages moved) lane (record lane { pages = memory; running = worked s.head.shelf commands (os ++ result.outcome ∷ []) }))
     (sym next.piece_is)
     (λ (is : IsPieceDone (piece_of k s.head.shelf next.work.done job) moved result lane.pages memory). record {
       place = next.place;
       command = next.command;
-      work = next.work;
       memory = memory;
       moved = moved;
       at_place = ap (λ (l : List Command). slice_get l next.place) running ∙ next.at_place;

@@ -1,5 +1,6 @@
-use Rattle.std.proofs.Common.{◌≡◌, ℕ, ◌*◌, ◌&&◌, Bool, true, false, List, Option, Some, None, Result, Ok, Err, length, refl, sym, ap, subst, ◌∙◌}
-use Rattle.std.specs.Prelude.{IfOk, is_err}
+use Rattle.std.proofs.Common.{◌≡◌, ℕ, ◌*◌, ◌&&◌, Bool, true, false, List, Option, Some, None, Result, Ok, Err, length, refl, sym, ap, subst, ◌∙◌, arith}
+use Rattle.std.specs.Prelude.{◌≤◌, IfOk, IfSome, is_err}
+use Rattle.nvm_model.specs.World.{window_pages}
 use Rattle.std.proofs.lemmas.List.{length-map}
 use Rattle.mig_base.specs.Count.{RisesIf}
 use Rattle.nvm_model.specs.declared.script.Head.{Head}
@@ -18,11 +19,13 @@ use Rattle.turns.proofs.AskedLaws.{run_asks}
 use Rattle.turns.proofs.StageLineLaws.{run_is_whole}
 use Rattle.turns.proofs.EndLaws.{is_untouched}
 use Rattle.turns.proofs.RanLaws.{ran}
+use Rattle.turns.proofs.TraceLaws.{run_segments}
 use Rattle.session.specs.declared.ending.Ending.{Ending}
 use Rattle.session.specs.declared.ending.Ending.TheVariants as ending
 use Rattle.session.specs.Opened.{IsNewPlace, Opens}
-use Rattle.session.specs.Place.{PlaceState, pages_of}
-use Rattle.session.specs.Sides.{Goes, HasEnded as SessionEnded, IsEnding, SessionState, StandsAs, at_side, by_side as stand_by, sides}
+use Rattle.guest_ram.specs.Ram.{all_pages}
+use Rattle.session.specs.Place.{PlaceState}
+use Rattle.session.specs.Sides.{Goes, HasEnded as SessionEnded, IsEnding, MovesAtOnce, SessionState, StandsAs, at_side, by_side as stand_by, sides}
 use Rattle.engine.specs.declared.status.Status.{Status}
 use Rattle.engine.specs.declared.status.Status.TheVariants.{Done, Usage, BadScript, TooLong, OutOfMemory, HostSize, ReadFault, WriteFault, GaveUp, Refused}
 use Rattle.engine.specs.Built.{IsTaken, Spells}
@@ -55,8 +58,8 @@ left_by {M} Source {end = end} {new} is stands given =
       left = record {
         from = given.from ∙ sym stands.lanes.media ∙ sym (ap (λ (k : Side). by_side Source k end.at end.other) side);
         to = given.to ∙ sym stands.other ∙ sym (ap (λ (k : Side). by_side Destination k end.at end.other) side);
-        from_memory = ap pages_of given.from_ram ∙ sym stands.memory ∙ sym (ap (λ (k : Side). by_side Source k memory end.left) side);
-        to_memory = ap pages_of given.to_ram ∙ sym stands.left ∙ sym (ap (λ (k : Side). by_side Destination k memory end.left) side);
+        from_memory = ap all_pages given.from_ram ∙ sym stands.memory ∙ sym (ap (λ (k : Side). by_side Source k memory end.left) side);
+        to_memory = ap all_pages given.to_ram ∙ sym stands.left ∙ sym (ap (λ (k : Side). by_side Destination k memory end.left) side);
         out = given.out ∙ sym stands.out;
       };
       task = stands.task;
@@ -70,8 +73,8 @@ left_by {M} Destination {end = end} {new} is stands given =
       left = record {
         from = given.from ∙ sym stands.other ∙ sym (ap (λ (k : Side). by_side Source k end.at end.other) side);
         to = given.to ∙ sym stands.lanes.media ∙ sym (ap (λ (k : Side). by_side Destination k end.at end.other) side);
-        from_memory = ap pages_of given.from_ram ∙ sym stands.left ∙ sym (ap (λ (k : Side). by_side Source k memory end.left) side);
-        to_memory = ap pages_of given.to_ram ∙ sym stands.memory ∙ sym (ap (λ (k : Side). by_side Destination k memory end.left) side);
+        from_memory = ap all_pages given.from_ram ∙ sym stands.left ∙ sym (ap (λ (k : Side). by_side Source k memory end.left) side);
+        to_memory = ap all_pages given.to_ram ∙ sym stands.memory ∙ sym (ap (λ (k : Side). by_side Destination k memory end.left) side);
         out = given.out ∙ sym stands.out;
       };
       task = stands.task;
@@ -98,11 +101,19 @@ gone {state = state} {moves} {session} new_session {source} {destination} {out =
     let asks = run_asks state moves from to.went.stages to.end refl refl refl to.went.run in
     record {
       end = to.end;
-      ran = ran to.went (λ is. at.phase ∙ is_over new_session result ended is);
+      ran = ran to.went refl (λ is. at.phase ∙ is_over new_session result ended is);
       left = at.left;
       over = λ is. at.phase ∙ is_over new_session result ended is;
       ending = ends_so new_session result (ap (λ (k : Task). k.script.head.migrate) (sym at.task ∙ asks.same)) (sym at.side) ended;
     }
+
+-- a script that is taken moves at once
+pub at_once : (s : Script) → IsTaken s → IfSome s.head.migrate (λ _. MovesAtOnce s.head)
+at_once s taken = by s.head.migrate taken.built.moves
+  where
+    by : (asked : Option ℕ) → IfSome asked (λ _. (s.head.small ≡ s.head.blocks) × (window_pages s.head ≤ s.head.pages)) → IfSome asked (λ _. MovesAtOnce s.head)
+    by None is = tt
+    by (Some turn) is = record { blocks = omega (arith, is.0); pages = is.1 }
 
 -- What is said of a run at the top.
 
@@ -180,7 +191,7 @@ run_of : {M I E : Type 0} {state : M → MediumState I} {moves : I → Step → 
     IsTaken s → Spells input s → IsOpened state Source s.head old.from source → IsOpened state Destination s.head old.to destination → HasGone state moves (start s old) result new → IsAnswer result status → IsRun state moves input old status new
 run_of {M} {I} {E} {state} {moves} {input} {s} {old} {new} {result = result} status taken spelled from to g answer =
     let stages = g.ran.stages in
-    let lines = lines_in s stages in
+    let lines = lines_in stages in
     let asks = run_asks state moves (start s old) stages g.end refl refl refl g.ran.run in
     let none = λ (e : s.head.migrate ≡ None). not_tried g.end.tried g.end.task.script.head.migrate asks.asked (ap (λ (k : Task). k.script.head.migrate) asks.same ∙ e) in
     let says = λ (is : is_write_fault status ≡ false). answered g.end.side status result (answer.failed ∙ is) none
@@ -202,6 +213,7 @@ run_of {M} {I} {E} {state} {moves} {input} {s} {old} {new} {result = result} sta
         source_sizes = rw g.left.from source_sizes;
         destination_sizes = rw g.left.to destination_sizes;
       };
+      segments = run_segments state moves s (start s old) stages g.end (record { script = refl; phase = refl; side = refl }) g.ran.run;
       faults = record { never_fell = rw (g.left.from, g.left.to) g.ran.never_fell; causes = rw (g.left.from, g.left.to) g.ran.causes };
       unmoved = λ e. let stays = asks.stays (none e) in is_untouched (start s old) g.end refl stays.0 stays.1 stays.2;
       over = on_ended status (λ is. record { over = g.over (answer.failed ∙ is); whole = run_is_whole state moves (start s old) stages g.end refl refl refl (g.over (answer.failed ∙ is)) g.ran.run; gave_up = says is });

@@ -7,9 +7,10 @@ use Rattle.nvm_model.specs.declared.trace.Step.{Step}
 use Rattle.nvm_model.specs.Chain.{Chain}
 use Rattle.nvm_model.specs.History.{Complete, IsWhole, Reaches, events_before_resume, events_of, faults_shown, has_given_up}
 use Rattle.nvm_model.specs.Medium.{HaveSize, IsAt, MediumState, faults_in, told_in}
+use Rattle.nvm_model.specs.Segment.{HaveSegments}
 use Rattle.nvm_model.specs.Shelf.{joined}
 use Rattle.nvm_model.specs.Text.{IsTranscript, text_of}
-use Rattle.nvm_model.specs.Turn.{RunsInTurns}
+use Rattle.nvm_model.specs.Rounds.{RunsInRounds}
 use Rattle.nvm_model.specs.World.{World}
 use Rattle.guest_ram.specs.declared.host.Host.{Host}
 use Rattle.guest_ram.specs.Window.{WindowState}
@@ -19,7 +20,7 @@ use Rattle.turns.specs.Ran.{Ran}
 use Rattle.nvm_model.specs.Run.{IsStage, IsWritten, SinkState, Snapshot, Stage, calls_at, lines_in, media_at, memory_at, start_of}
 use Rattle.nvm_model.specs.Told.{HasStopped, IsUntouched, SidesHold, have_resumed, is_source, serial}
 use Rattle.session.specs.declared.ending.Ending.{Ending}
-use Rattle.session.specs.Place.{pages_of}
+use Rattle.guest_ram.specs.Ram.{all_pages}
 use Rattle.session.specs.Sides.{IsEnding}
 use Rattle.engine.specs.declared.status.Status.{Status}
 use Rattle.engine.specs.Built.{IsTaken, Spells}
@@ -47,8 +48,8 @@ start s h = start_of (serial s) h.from h.to h.out
 pub record AreLeft {M : Type 0} (end : Snapshot M) (new : Hosts M) : Type 0 where
   pub from : new.from ≡ media_at Source end
   pub to : new.to ≡ media_at Destination end
-  pub from_memory : pages_of new.from_ram ≡ memory_at Source end
-  pub to_memory : pages_of new.to_ram ≡ memory_at Destination end
+  pub from_memory : all_pages new.from_ram ≡ memory_at Source end
+  pub to_memory : all_pages new.to_ram ≡ memory_at Destination end
   pub out : new.out ≡ end.out
 
 -- the counts of failed calls of both hosts' media
@@ -85,7 +86,8 @@ pub record HasEnded {M I : Type 0} (state : M → MediumState I) (s : Script) (b
   -- command once, in its queue's order.
   pub history : IsHistory s blocks lines world
   -- The events stand in turns, whose pieces have the script's order, and the migration stands where the script asks for it.
-  pub turns : RunsInTurns s blocks lines world
+  -- The guests are suspended exactly where this is due.
+  pub turns : RunsInRounds (serial s) blocks lines world
   -- Each guest did its acts, and each of its commands was fetched, done, posted and reaped.
   pub complete : Complete s world
   -- Where the guests were moved, the source holds the blocks and the whole memory of the world then, and the destination
@@ -112,20 +114,24 @@ pub record IsRun {M I : Type 0} (state : M → MediumState I) (moves : I → Ste
   pub run : Chain (IsStage state moves) (start script old) stages end
   pub left : AreLeft end new
   -- the stages' text went out; where the output failed, all but a rest of the last one's
-  pub text : IsWritten script stages old.out.taken (is_write_fault status) new.out.taken
+  pub text : IsWritten stages old.out.taken (is_write_fault status) new.out.taken
   -- Each medium got exactly the calls of the stages on its host, in order: for a piece those of its blocks, up to one that
   -- failed, at the medium of its shelf alone; for a move a mark at each, a get at the source and a put at the destination for
   -- each block, up to one that failed, and a mark at each. No call is made again.
   pub media : AreCalled state moves script stages old new
+  -- Cut at its marks, the trace of each medium has in a round the steps of the pieces and one get or put for each of the lowest
+  -- blocks that are owed, in the pause one for each that is owed, ascending, and a front of these where a copy failed. The
+  -- destination gets no call before the migration begins, nor the side that the guests left behind it.
+  pub segments : HaveSegments state moves script (start script old) stages
   -- No count of failed calls fell. What the lines show of faults is at most what the counts of both hosts rose by, where none
   -- stands at its type's end; so a move is given up only where a medium failed.
-  pub faults : HaveCauses (lines_in script stages) (faults_of state old) (faults_of state new)
+  pub faults : HaveCauses (lines_in stages) (faults_of state old) (faults_of state new)
   -- where no migration is asked for, the destination is as it was, with zeroed memory
   pub unmoved : script.head.migrate ≡ None → IsUntouched (start script old) end
   -- After `Done` and `GaveUp` the last stage is the end, whatever the media tell.
-  pub over : OnEnded status (IsOver script (lines_in script stages) end status)
+  pub over : OnEnded status (IsOver script (lines_in stages) end status)
   -- And where the media over which the guests went tell their blocks, all of this holds.
-  pub ended : OnEnded status (IfTold state (have_resumed stages) old (λ blocks. HasEnded state script blocks (lines_in script stages) end status))
+  pub ended : OnEnded status (IfTold state (have_resumed stages) old (λ blocks. HasEnded state script blocks (lines_in stages) end status))
   -- After `WriteFault` so does this, of what was written and of what was done.
   pub sink : OnWriteFault status (IfTold state (have_resumed stages) old (λ blocks. HasStopped state script blocks (start script old) end))
 

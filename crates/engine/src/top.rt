@@ -1,7 +1,6 @@
 // The top call.
 ghost use Rattle.std.specs.Prelude.{◌≡◌, ◌≤◌, ◌/◌, ◌++◌, [], IfOk, IfErr, map, string_bytes};
 ghost use Rattle.nvm_model.specs.Medium.{sizes_in};
-ghost use Rattle.nvm_model.specs.ScriptText.{IsScript};
 ghost use Rattle.nvm_blocks.specs.Namespace.{media_of};
 ghost use Rattle.nvm_model.specs.Run.{start_of};
 ghost use Rattle.nvm_model.specs.Told.{serial};
@@ -154,7 +153,7 @@ fn run_places<K: Sink, M: Medium>(
     from: &mut Host<M>,
     to: &mut Host<M>,
 ) -> Result<Ending, Failed>
-    requires new { IsScript session.script × IsNewSession session.script session }
+    requires new { IsTaken session.script × IsNewSession session.script session }
     requires source { IsNewPlace Running session.script.head (media_of source.namespace) source }
     requires destination { IsNewPlace Loading session.script.head (media_of destination.namespace) destination }
     requires empty { (from.old.shelves.items ≡ []) × (to.old.shelves.items ≡ []) }

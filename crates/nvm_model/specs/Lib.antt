@@ -4,6 +4,7 @@ pub mod Check
 pub mod Piece
 pub mod Shelf
 pub mod Chain
+pub mod Owed
 pub mod Medium
 pub mod Trace
 pub mod Event
@@ -14,4 +15,6 @@ pub mod Ring
 pub mod Turn
 pub mod Stop
 pub mod Run
+pub mod Rounds
+pub mod Segment
 pub mod Told

@@ -12,11 +12,11 @@ use Rattle.nvm_model.specs.ScriptText.{IsScript}
 use Rattle.nvm_model.specs.Shelf.{joined}
 use Rattle.nvm_model.specs.Stop.{EndOneTurn, IsPart}
 use Rattle.nvm_model.specs.Text.{IsLine, text_of}
-use Rattle.nvm_model.specs.Turn.{RunsInTurns}
+use Rattle.nvm_model.specs.Rounds.{RunsInRounds, turns_in}
 use Rattle.nvm_model.specs.World.{World}
 use Rattle.nvm_model.specs.declared.run.Side.{Side}
 use Rattle.nvm_model.specs.declared.run.Side.TheVariants.{Source, Destination}
-use Rattle.nvm_model.specs.Run.{Snapshot, Stage, Task, media_at, memory_at, memory_of, start_lanes, start_of}
+use Rattle.nvm_model.specs.Run.{Snapshot, Stage, Task, media_at, memory_at, memory_of, start_of}
 use Rattle.nvm_model.specs.Run.Order.{Serial}
 use Rattle.nvm_model.specs.Run.Stage.{Resume}
 
@@ -34,7 +34,7 @@ pub record Tell {M I : Type 0} (state : M → MediumState I) (h : Head) (media :
 
 -- whether the guests went on at the other side in one of these stages
 abbrev pub resumes : Stage → Bool
-resumes (Resume side copies) = true
+resumes (Resume side n copies pages) = true
 resumes _ = false
 
 abbrev pub have_resumed : List Stage → Bool
@@ -62,9 +62,9 @@ pub record IsUntouched {M : Type 0} (old new : Snapshot M) : Type 0 where
   pub memory : memory_at Destination new ≡ memory_at Destination old
 
 -- Where the guests were moved, the source holds the world that the events before reach, and the destination the world at
--- the end. Where they weren't, the source holds it, and the destination's memory is as it was.
+-- the end. Where they weren't, the source holds it.
 abbrev pub SidesHold : {M I : Type 0} → (M → MediumState I) → Script → List (List ℕ) → Option (List Line) → Snapshot M → World → Type 0
-SidesHold state s blocks None t w = Holds state s Source t w × (memory_at Destination t ≡ memory_of s (start_lanes s))
+SidesHold state s blocks None t w = Holds state s Source t w
 SidesHold state s blocks (Some before) t w = (v : World) × Reaches s blocks before v × Holds state s Source t v × Holds state s Destination t w
 
 -- whether a side is the source
@@ -78,7 +78,7 @@ pub record HasRun {M I : Type 0} (state : M → MediumState I) (s : Script) (blo
   pub whole : IsWhole s lines
   pub are_lines : AllByRecursion IsLine lines
   pub legal : Reaches s blocks (events_of lines) world
-  pub turns : RunsInTurns s blocks lines world
+  pub turns : RunsInRounds (serial s) blocks lines world
   pub complete : Complete s world
   pub sides : SidesHold state s blocks (events_before_resume lines) new world
   -- a migration was given up exactly where the guests are at the source and one was begun
@@ -106,7 +106,7 @@ pub record HasStopped {M I : Type 0} (state : M → MediumState I) (s : Script) 
   pub whole : IsWhole s lines
   pub are_lines : AllByRecursion IsLine lines
   pub legal : Reaches s blocks (events_of lines) world
-  pub turns : RunsInTurns s blocks lines world
+  pub turns : RunsInRounds (serial s) blocks lines world
   pub complete : Complete s world
   pub written : List Line
   pub done : List Line
@@ -116,10 +116,10 @@ pub record HasStopped {M I : Type 0} (state : M → MediumState I) (s : Script) 
   pub part_is : IsPart part (done ++ others)
   pub text : new.out.taken ≡ with_more (text_of written ++ part) old.out.taken
   pub done_are : AreEvents done
-  pub one_turn : EndOneTurn done (turns.before ++ turns.after)
+  pub one_turn : EndOneTurn done (turns_in turns)
   pub reached : World
   pub legal_so_far : Reaches s blocks (events_of written ++ done) reached
   pub holds : SideHolds state s (lines_before_resume written) new reached
   pub untouched : (list_any is_migrate written ≡ true) ⊎ IsUntouched old new
-  -- the lines that are still to come show no fault, so each that they show was one
+  -- each fault that these lines show was a call that failed
   pub rose : RiseBy (faults_shown lines) (faults_of state old) (faults_of state new)

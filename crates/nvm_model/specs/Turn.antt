@@ -7,9 +7,9 @@ use Rattle.nvm_model.specs.declared.line.Line.TheVariants as line
 use Rattle.nvm_model.specs.declared.script.Act.TheVariants.{Idle}
 use Rattle.nvm_model.specs.declared.script.Script.{Script}
 use Rattle.nvm_model.specs.Event.{LaneStep, One, lane_number}
-use Rattle.nvm_model.specs.History.{Steps, Complete, IsMigration}
+use Rattle.nvm_model.specs.History.{Steps, Complete}
 use Rattle.nvm_model.specs.Piece.{pieces_left}
-use Rattle.nvm_model.specs.World.{Lane, World, acts_of, start_world}
+use Rattle.nvm_model.specs.World.{Lane, World, acts_of}
 
 -- A turn: for each lane in order, its guest reaps and acts and the controller fetches; then all pieces are done; then,
 -- for each lane in order, all fetched commands are posted.
@@ -185,15 +185,3 @@ events_in turns = flat_map (λ (turn : List Line). turn) turns
 abbrev pub Begins : Script → Option ℕ → ℕ → World → Type 0
 Begins s None done w = Unit {0}
 Begins s (Some turn) done w = (done < turn) × ((done + 1 ≡ turn) ⊎ Complete s w)
-
--- A whole transcript in turns, those before the migration and those after it.
-pub record RunsInTurns (s : Script) (blocks : List (List ℕ)) (lines : List Line) (w : World) : Type 0 where
-  pub before : List (List Line)
-  pub migration : List Line
-  pub after : List (List Line)
-  pub lines_are : lines ≡ line.Title ∷ line.Ready ∷ events_in before ++ (migration ++ (events_in after ++ line.End ∷ []))
-  pub is_migration : IsMigration s.head.migrate migration
-  pub mid : World
-  pub turns_before : Turns s 0 (start_world s.head blocks) before mid
-  pub begins : Begins s s.head.migrate (length before) mid
-  pub turns_after : Turns s (pieces_in (events_in before)) mid after w

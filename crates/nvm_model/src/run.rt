@@ -12,8 +12,12 @@ pub enum RunPhase {
     New,
     /// Turns are done.
     Running,
+    /// Turns are done, in which blocks are copied.
+    Moving,
     /// The guests were suspended, and are being moved.
     Suspended,
+    /// A copy failed, and the guests are to go on where they are.
+    Stopped,
     /// All was written.
     Over,
 }

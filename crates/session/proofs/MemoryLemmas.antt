@@ -1,4 +1,5 @@
-use Rattle.std.proofs.Common.{◌≡◌, ℕ, ◌+◌, ◌-◌, ◌<◌, ◌≤◌, List, length, map, sum, take, get_or, refl, sym, ap, ◌∙◌, arith}
+use Rattle.std.specs.List.{flat_map}
+use Rattle.std.proofs.Common.{◌≡◌, ℕ, ◌+◌, ◌-◌, ◌<◌, ◌≤◌, List, [], ◌∷◌, ◌++◌, length, map, sum, take, get_or, refl, sym, ap, ◌∙◌, arith}
 use Rattle.std.proofs.lemmas.List.{length-map, ext_get_or, get_or-take, get_or-map as get_or_map}
 use Rattle.std.proofs.lemmas.List.Concat.{length-flat_map}
 use Rattle.std.proofs.lemmas.List.Sums.{sum-map}
@@ -13,7 +14,7 @@ use Rattle.ctl_state.specs.Controller.{ControllerState}
 use Rattle.nvm_model.specs.Run.{memory_of}
 use Rattle.session.specs.declared.lane_run.LaneRun.{LaneRun}
 use Rattle.session.specs.Lanes.{HaveWindows, IsWindowOf}
-use Rattle.session.specs.Place.{AreRunsOf, StandsFor, pages_of}
+use Rattle.session.specs.Place.{AreRunsOf, StandsFor}
 use Rattle.turns.proofs.PartLaws.{windows_from}
 use Rattle.nvm_ring.proofs.QueueLemmas.{window_whole}
 use Rattle.mig_base.proofs.ListLemmas.{element_at}
@@ -67,12 +68,17 @@ have_pages {s} {windows} head have =
 
 -- Whose memory it is.
 
--- a place's whole memory is that of the lanes
+-- a place's whole memory, page for page, is that of the lanes
 pub whole_memory : {s : Script} {runs : List LaneRun} {controller : ControllerState} {windows : List WindowState} {lanes : List Lane} → IsScript s → AreRunsOf s runs → HaveWindows s windows → StandsFor s runs controller windows lanes →
-    pages_of windows ≡ memory_of s lanes
+    all_pages windows ≡ memory_of s lanes
 whole_memory {s} {runs} {windows = windows} {lanes} is are have stands =
     let pages = λ (w : WindowState). w.pages in
-    windows_from s.head 1 (map pages windows) lanes (length-map windows pages ∙ have.count ∙ sym stands.count) (λ k first there.
+    let each = windows_from s.head 1 (map pages windows) lanes (length-map windows pages ∙ have.count ∙ sym stands.count) (λ k first there.
     let few : k ≤ s.head.lanes = omega (arith, there, stands.count) in
-    let d = element_at runs 0 (omega (arith, are.count, is.head.lanes)) in
-    get_or-map pages windows (k - 1) no_window ∙ window_whole s.head k (stands.each k d (new_lane 0) first few).window_is)
+    let d = element_at runs 0 (omega (arith, is.head.lanes, are.count)) in
+    get_or-map pages windows (k - 1) no_window ∙ window_whole s.head k (stands.each k d (new_lane 0) first few).window_is) in
+    pages_by_window windows ∙ ap (λ (all : List (List (List ℕ))). flat_map (λ (window : List (List ℕ)). window) all) each
+  where
+    pages_by_window : (ws : List WindowState) → all_pages ws ≡ flat_map (λ (window : List (List ℕ)). window) (map (λ (w : WindowState). w.pages) ws)
+    pages_by_window [] = refl
+    pages_by_window (w ∷ ws) = ap (λ (others : List (List ℕ)). w.pages ++ others) (pages_by_window ws)

@@ -1,4 +1,5 @@
 use Rattle.std.proofs.Common.{◌≡◌, ℕ, ◌+◌, ◌-◌, ◌*◌, ◌/◌, ◌<◌, ◌≤◌, Bool, true, List, ◌∷◌, ◌++◌, Result, Ok, Err, get_or, length, min, refl, sym, ap, subst, ◌∙◌, arith}
+use Rattle.std.specs.List.{flat_map}
 use Rattle.nvm_ring.specs.Places.{IsRing}
 use Rattle.std.proofs.Math.Nat.{mod-lt, mul-div_cancel}
 use Rattle.nvm_model.specs.declared.script.Head.{Head}
@@ -7,7 +8,7 @@ use Rattle.nvm_model.specs.declared.trace.Step.{Step}
 use Rattle.nvm_model.specs.Chain.{Chain}
 use Rattle.nvm_model.specs.Medium.{At, MediumState}
 use Rattle.nvm_model.specs.Ring.{CqState}
-use Rattle.nvm_model.specs.Run.{CopiesAll, CopiesUpTo, Copy, all_blocks, gets_of, left_calls, media_count, puts_of, taken_calls}
+use Rattle.nvm_model.specs.Run.{CopiesUpTo, Copy, gets_of, media_count, puts_of, resume_mark, suspend_mark}
 use Rattle.nvm_model.specs.ScriptText.{IsHead}
 use Rattle.nvm_model.specs.World.{new_lane, window_pages}
 use Rattle.turns.proofs.ScriptLaws.{few_pages, set_fits, some_pages}
@@ -29,9 +30,8 @@ use Rattle.manager.specs.Owed.{places_of}
 use Rattle.manager.specs.Port.{PortCall, PortState, SideState, with_media_of}
 use Rattle.manager.proofs.AskLemmas.{asked_more}
 use Rattle.manager.proofs.CallLaws.{AreMoveCalls, cut_calls, stopped_calls}
-use Rattle.manager.proofs.CopyLemmas.{all_places, places_all}
 use Rattle.manager.proofs.MoveLemmas.{covers_all, has_image}
-use Rattle.session.specs.Moves.{Brings, Crosses, Moves, Stays, Tries, begun, both}
+use Rattle.session.specs.Moves.{Brings, Crosses, Moves, Stays, Tries, both, owed_by}
 use Rattle.session.specs.Place.{IsPlaceOf, IsReady, IsWaiting, Machine, PlaceState}
 use Rattle.session.specs.Port.{DestCall, Ends, dest_of_place, moves_place, moves_port, port_of, side_of_place}
 use Rattle.session.specs.Sides.{move_set}
@@ -55,24 +55,20 @@ shelved {s = s} {p} head is =
     let whole : length p.namespace.shelves * s.head.shelf ≡ s.head.blocks = ap (λ (k : ℕ). length p.namespace.shelves * k) (sym is.namespace.shelf) ∙ is.namespace.blocks in
     (is.namespace.shelf, sym (mul-div_cancel (length p.namespace.shelves) (omega (arith, head.shelf.0))) ∙ ap (λ (n : ℕ). n / s.head.shelf) whole)
 
--- all is owed
-blocks_owed : (s : Script) (m : ManagerState) → m ≡ with_all true Begun (move_set s.head) → places_of m.blocks ≡ all_blocks s
-blocks_owed s m is = ap (λ (n : ManagerState). places_of n.blocks) is ∙ places_all 0 s.head.blocks
+-- both places went on by the calls of a pause with these copies
+pub record Goes {M I : Type 0} (state : M → MediumState I) (moves : I → Step → Bool → I → Type 0) (s : Script) (n : ℕ) (copies : List Copy) (old new : Ends M (PlaceState M)) : Type 0 where
+  pub from : PlaceGoes state moves (suspend_mark s n ++ (flat_map (gets_of s.head.shelf) copies ++ resume_mark s n)) old.from new.from
+  pub to : PlaceGoes state moves (suspend_mark s n ++ (flat_map (puts_of s.head.shelf) copies ++ resume_mark s n)) old.to new.to
 
--- both places went on by the calls of a move with these copies
-pub record Goes {M I : Type 0} (state : M → MediumState I) (moves : I → Step → Bool → I → Type 0) (s : Script) (copies : List Copy) (old new : Ends M (PlaceState M)) : Type 0 where
-  pub from : PlaceGoes state moves (left_calls s copies) old.from new.from
-  pub to : PlaceGoes state moves (taken_calls s copies) old.to new.to
-
-goes : {M I : Type 0} {state : M → MediumState I} {moves : I → Step → Bool → I → Type 0} {s : Script} (old new : Ends M (PlaceState M)) (calls : List PortCall) (copies : List Copy) → IsHead s.head → IsPlaceOf s old.from → IsPlaceOf s old.to →
-    Chain (ends_move state moves) old calls new → AreMoveCalls (media_count s) calls copies → Goes state moves s copies old new
-goes {state = state} {moves} {s} old new calls copies head at to c are = record {
+goes : {M I : Type 0} {state : M → MediumState I} {moves : I → Step → Bool → I → Type 0} {s : Script} (n : ℕ) (old new : Ends M (PlaceState M)) (calls : List PortCall) (copies : List Copy) → IsHead s.head → IsPlaceOf s old.from → IsPlaceOf s old.to →
+    Chain (ends_move state moves) old calls new → AreMoveCalls (media_count s) n calls copies → Goes state moves s n copies old new
+goes {state = state} {moves} {s} n old new calls copies head at to c are = record {
   from = subst (λ (xs : List At). PlaceGoes state moves xs old.from new.from) (are.all (gets_of s.head.shelf)) (from_all state moves s.head.shelf (media_count s) calls old new c (shelved head at));
   to = subst (λ (xs : List At). PlaceGoes state moves xs old.to new.to) (are.all (puts_of s.head.shelf)) (to_all state moves s.head.shelf (media_count s) calls old new c (shelved head to));
 }
 
-crosses : {M I : Type 0} {state : M → MediumState I} {moves : I → Step → Bool → I → Type 0} {s : Script} {copies : List Copy} (old new : Ends M (PlaceState M)) → Goes state moves s copies old new → all_pages new.from.windows ≡ all_pages old.from.windows →
-    Crosses state moves s copies (both old.from old.to) (both new.from new.to)
+crosses : {M I : Type 0} {state : M → MediumState I} {moves : I → Step → Bool → I → Type 0} {s : Script} {n : ℕ} {copies : List Copy} (old new : Ends M (PlaceState M)) → Goes state moves s n copies old new → all_pages new.from.windows ≡ all_pages old.from.windows →
+    Crosses state moves s n copies (both old.from old.to) (both new.from new.to)
 crosses old new g pages = record {
   gets = g.from.called;
   puts = g.to.called;
@@ -82,41 +78,41 @@ crosses old new g pages = record {
 }
 
 -- the guests were moved
-pub moved : {M I : Type 0} {state : M → MediumState I} {moves : I → Step → Bool → I → Type 0} {s : Script} {at to new_at new_to : PlaceState M} {names new_names : ℕ × ℕ} (size : ℕ) (m : ManagerState) → IsHead s.head → IsPlaceOf s at → IsPlaceOf s to →
+pub moved : {M I : Type 0} {state : M → MediumState I} {moves : I → Step → Bool → I → Type 0} {s : Script} {at to new_at new_to : PlaceState M} {names new_names : ℕ × ℕ} (n size : ℕ) (m : ManagerState) → IsHead s.head → IsPlaceOf s at → IsPlaceOf s to →
     m ≡ with_all true Begun (move_set s.head) → Covers m →
-    Asked (ends_move state moves) (cut_over_asks 0 (places_of m.blocks) (places_of m.pages) size) (port_at state names at to) (port_at state new_names new_at new_to) →
-    LeavesSource (side_of_place state at) (side_of_place state new_at) → HoldsSame m (port_at state names at to) (port_at state new_names new_at new_to) → Moves state moves s (both at to) (both new_at new_to)
-moved {M} {state = state} {s = s} {at} {to} {new_at} {new_to} {names} {new_names} size m head is waits made covers asked leaves holds =
+    Asked (ends_move state moves) (cut_over_asks n (places_of m.blocks) (places_of m.pages) size) (port_at state names at to) (port_at state new_names new_at new_to) →
+    LeavesSource (side_of_place state at) (side_of_place state new_at) → HoldsSame m (port_at state names at to) (port_at state new_names new_at new_to) → Moves state moves s n (owed_by m) (both at to) (both new_at new_to)
+moved {M} {state = state} {s = s} {at} {to} {new_at} {new_to} {names} {new_names} n size m head is waits made covers asked leaves holds =
     let old : Ends M (PlaceState M) = record { names = names; from = at; to = to } in
     let new : Ends M (PlaceState M) = record { names = new_names; from = new_at; to = new_to } in
-    let calls = cut_calls (media_count s) (places_of m.blocks) (places_of m.pages) size asked.calls asked.asks_are in
-    let g = goes {s = s} old new asked.calls calls.0 head is waits asked.inside calls.2 in
+    let calls = cut_calls (media_count s) n (places_of m.blocks) (places_of m.pages) size asked.calls asked.asks_are in
+    let g = goes {s = s} n old new asked.calls calls.0 head is waits asked.inside calls.2 in
     let left : all_pages new_at.windows ≡ all_pages at.windows = ap (λ (x : SideState). x.pages) leaves.is in
-    let count : m.set.ram_pages ≡ window_pages s.head = ap (λ (n : ManagerState). n.set.ram_pages) made in
+    let count : m.set.ram_pages ≡ window_pages s.head = ap (λ (k : ManagerState). k.set.ram_pages) made in
     let pages = holds.pages (covers.pages (all_pages at.windows) (all_pages to.windows) (have_pages head is.windows ∙ sym count) (have_pages head waits.windows ∙ sym count)) in
     record {
       copies = calls.0;
-      all = subst (λ (bs : List ℕ). CopiesAll bs calls.0) (blocks_owed s m made) calls.1;
+      all = calls.1;
       crosses = crosses old new g left;
       to_memory = same_memory new_to.windows at.windows (g.to.shape_is ∙ one_shape waits.windows is.windows) (pages ∙ left);
       controllers = (ap (λ (x : SideState). x.controller) leaves.is, holds.running);
     }
 
 -- the guests stayed
-pub stayed : {M I : Type 0} {state : M → MediumState I} {moves : I → Step → Bool → I → Type 0} {s : Script} {at to new_at new_to : PlaceState M} {names new_names : ℕ × ℕ} (front : List ℕ) (last : ℕ) (others : List ℕ) (side : Side) (mid : PortState (Ends M (PlaceState M))) (m : ManagerState) →
-    IsHead s.head → IsPlaceOf s at → IsPlaceOf s to → m ≡ with_all true Begun (move_set s.head) → places_of m.blocks ≡ front ++ last ∷ others →
-    Asked (ends_move state moves) (stopped_asks 0 front last side) (port_at state names at to) mid → Asked (ends_move state moves) (resume_asks From 0) mid (port_at state new_names new_at new_to) →
-    LeavesSource (side_of_place state at) mid.from → mid.to ≡ with_media_of mid.to (side_of_place state to) → IsGivenUp mid (port_at state new_names new_at new_to) → Stays state moves s (both at to) (both new_at new_to)
-stayed {M} {state = state} {s = s} {at} {to} {new_at} {new_to} {names} {new_names} front last others side mid m head is waits made owed first second leaves to_is given =
+pub stayed : {M I : Type 0} {state : M → MediumState I} {moves : I → Step → Bool → I → Type 0} {s : Script} {at to new_at new_to : PlaceState M} {names new_names : ℕ × ℕ} (n : ℕ) (front : List ℕ) (last : ℕ) (others : List ℕ) (side : Side) (mid : PortState (Ends M (PlaceState M))) (m : ManagerState) →
+    IsHead s.head → IsPlaceOf s at → IsPlaceOf s to → places_of m.blocks ≡ front ++ last ∷ others →
+    Asked (ends_move state moves) (stopped_asks n front last side) (port_at state names at to) mid → Asked (ends_move state moves) (resume_asks From n) mid (port_at state new_names new_at new_to) →
+    LeavesSource (side_of_place state at) mid.from → mid.to ≡ with_media_of mid.to (side_of_place state to) → IsGivenUp mid (port_at state new_names new_at new_to) → Stays state moves s n (owed_by m) (both at to) (both new_at new_to)
+stayed {M} {state = state} {s = s} {at} {to} {new_at} {new_to} {names} {new_names} n front last others side mid m head is waits owed first second leaves to_is given =
     let old : Ends M (PlaceState M) = record { names = names; from = at; to = to } in
     let new : Ends M (PlaceState M) = record { names = new_names; from = new_at; to = new_to } in
     let asked = asked_more first second in
-    let calls = stopped_calls (media_count s) front last others side asked.calls asked.asks_are in
-    let g = goes {s = s} old new asked.calls calls.0 head is waits asked.inside calls.2 in
+    let calls = stopped_calls (media_count s) n front last others side asked.calls asked.asks_are in
+    let g = goes {s = s} n old new asked.calls calls.0 head is waits asked.inside calls.2 in
     let left : all_pages new_at.windows ≡ all_pages at.windows = ap (λ (x : SideState). x.pages) given.from ∙ ap (λ (x : SideState). x.pages) leaves.is in
     record {
       copies = calls.0;
-      up_to = subst (λ (bs : List ℕ). CopiesUpTo bs calls.0) (sym owed ∙ blocks_owed s m made) calls.1;
+      up_to = subst (λ (bs : List ℕ). CopiesUpTo bs calls.0) (sym owed) calls.1;
       crosses = crosses old new g left;
       to_memory = same_memory new_to.windows to.windows g.to.shape_is (ap (λ (x : SideState). x.pages) given.to ∙ ap (λ (x : SideState). x.pages) to_is);
       controllers = (
@@ -126,19 +122,18 @@ stayed {M} {state = state} {s = s} {at} {to} {new_at} {new_to} {names} {new_name
     }
 
 -- either
-pub brought : {M I : Type 0} (state : M → MediumState I) (moves : I → Step → Bool → I → Type 0) {s : Script} {at to : PlaceState M} (names : ℕ × ℕ) (new_at new_to : PlaceState M) (set : MoveSet) (result : Result Pause MediumFault) → IsHead s.head → IsPlaceOf s at → IsPlaceOf s to →
-    set ≡ move_set s.head → Brings (ends_move state moves) (begun set) result (port_at state names at to) (port_at state names new_at new_to) → Tries state moves s result (both at to) (both new_at new_to)
-brought state moves names new_at new_to set (Ok pause) head is waits same b = (
-  moved _ (begun set) head is waits (ap begun same) (covers_all (begun set) refl refl) b.0 b.1.0 b.1.1,
-  b.2 ∙ ap (λ (n : ℕ). record { blocks = n; pages = length (places_of (begun set).pages) }) (all_places 0 set.blocks) ∙ ap (λ (n : ℕ). record { blocks = set.blocks; pages = n }) (all_places 0 set.ram_pages)
-      ∙ ap (λ (x : MoveSet). record { blocks = x.blocks; pages = x.ram_pages }) same,
-)
-brought state moves names new_at new_to set (Err fault) head is waits same b = stayed b.1.0 b.1.1 b.1.2 fault.side b.0 (begun set) head is waits (ap begun same) b.1.3 b.1.4 b.3 b.2.0 b.2.1 b.4
+pub brought : {M I : Type 0} (state : M → MediumState I) (moves : I → Step → Bool → I → Type 0) {s : Script} {at to : PlaceState M} (n : ℕ) (names : ℕ × ℕ) (new_at new_to : PlaceState M) (m : ManagerState) (result : Result Pause MediumFault) → IsHead s.head → IsPlaceOf s at → IsPlaceOf s to →
+    m ≡ with_all true Begun (move_set s.head) → Brings (ends_move state moves) n m result (port_at state names at to) (port_at state names new_at new_to) → Tries state moves s n (owed_by m) result (both at to) (both new_at new_to)
+brought state moves {s} n names new_at new_to m (Ok pause) head is waits made b = (moved n _ m head is waits made (covers_all m (ap (λ (k : ManagerState). k.blocks) own) (ap (λ (k : ManagerState). k.pages) own)) b.0 b.1.0 b.1.1, b.2)
+  where
+    own : m ≡ with_all true Begun m.set
+    own = made ∙ ap (λ (k : MoveSet). with_all true Begun k) (sym (ap (λ (k : ManagerState). k.set) made))
+brought state moves n names new_at new_to m (Err fault) head is waits made b = stayed n b.1.0 b.1.1 b.1.2 fault.side b.0 m head is waits b.1.3 b.1.4 b.3 b.2.0 b.2.1 b.4
 
 -- the port holds the borrows that it held
-pub same_names : {M I J : Type 0} (state : M → MediumState I) (moves : I → Step → Bool → I → Type 0) (dest : J → DestCall → J → Type 0) (m : ManagerState) (result : Result Pause MediumFault) (old new : PortState (Ends M J)) → Brings (moves_port state moves dest) m result old new → new.inside.names ≡ old.inside.names
-same_names state moves dest m (Ok pause) old new b = names_kept state moves dest old.inside new.inside b.0.calls b.0.inside
-same_names state moves dest m (Err fault) old new b = names_kept state moves dest b.0.inside new.inside b.3.calls b.3.inside ∙ names_kept state moves dest old.inside b.0.inside b.1.4.calls b.1.4.inside
+pub same_names : {M I J : Type 0} (state : M → MediumState I) (moves : I → Step → Bool → I → Type 0) (dest : J → DestCall → J → Type 0) (t : ℕ) (m : ManagerState) (result : Result Pause MediumFault) (old new : PortState (Ends M J)) → Brings (moves_port state moves dest) t m result old new → new.inside.names ≡ old.inside.names
+same_names state moves dest t m (Ok pause) old new b = names_kept state moves dest old.inside new.inside b.0.calls b.0.inside
+same_names state moves dest t m (Err fault) old new b = names_kept state moves dest b.0.inside new.inside b.3.calls b.3.inside ∙ names_kept state moves dest old.inside b.0.inside b.1.4.calls b.1.4.inside
 
 -- What a manager needs of its port.
 

@@ -4,7 +4,7 @@ use Rattle.std.proofs.lemmas.List.{get_or-map, length-map, length-replicate}
 use Rattle.std.proofs.lemmas.List.Elements.{All-map}
 use Rattle.nvm_model.specs.declared.script.LaneSet.{LaneSet}
 use Rattle.nvm_model.specs.declared.script.Script.{Script}
-use Rattle.nvm_model.specs.ScriptText.{IsScript, IsTurn, IsSet}
+use Rattle.nvm_model.specs.ScriptText.{IsScript, IsSet}
 use Rattle.nvm_model.specs.World.{set_of, Lane, new_lane}
 use Rattle.ctl_state.specs.declared.phase.Phase.{Phase}
 use Rattle.ctl_state.specs.declared.phase.Phase.TheVariants.{Loading, Running}
@@ -22,7 +22,6 @@ use Rattle.session.specs.declared.lane_run.LaneRun.{LaneRun}
 use Rattle.session.specs.Lanes.{HaveWindows, IsNewRun, IsRunOf, Stands, window_of}
 use Rattle.turns.proofs.ScriptLaws.{set_fits, count_sets, set_at, start_at, start_count}
 use Rattle.guest_ram.proofs.Made.{made_at, made_count}
-use Rattle.turns.specs.Ahead.{IsAhead, turns_ahead}
 use Rattle.session.specs.Sides.{IsNewSession, SessionState, machine_of}
 use Rattle.ctl_state.specs.Parts.{PartsState}
 use Rattle.session.proofs.MemoryLemmas.{whole_memory}
@@ -113,18 +112,13 @@ is_waiting {s = s} is at = record {
   fed = ap (λ (f : PartsState). f.lanes) at.controller.none_fed ∙ sym (ap (λ (ps : List PairState). length ps) at.controller.pairs ∙ length-map (take s.head.lanes s.head.sets) (new_pair s.head.burst));
 }
 
--- the turns that come before a migration that is asked for
-ahead_is : (migrate : Option ℕ) → IsTurn migrate → IsAhead false migrate 0 (turns_ahead migrate)
-ahead_is None fits = λ e. refl
-ahead_is (Some turn) fits = let n : turn ≡ 0 + (turn - 1) + 1 = omega (arith, fits.0) in (refl, ap (λ (k : ℕ). Some k) n)
-
 pub opens : {M : Type 0} {session : SessionState} {from_media to_media : List M} {from to : PlaceState M} → IsScript session.script → IsNewSession session.script session →
     IsNewPlace Running session.script.head from_media from → IsNewPlace Loading session.script.head to_media to → Opens session from_media to_media from to
 opens {M} {session} {from_media} {to_media} {from} {to} is new source destination =
     let s = session.script in
-    let here : Here M = record { lanes = start_lanes s; media = from_media; drawn = 0 } in
+    let here : Here M = record { lanes = start_lanes s; media = from_media; other = to_media; drawn = 0; due = [] } in
     let lanes = starts is new.runs new.new source in
-    let stands : StandsOn s (machine_of session from) here = record { lanes = lanes; media = sym source.media_are; words = inr (rw new.mix new.words) } in
+    let stands : StandsOn s (machine_of session from) here = record { lanes = lanes; media = sym source.media_are; words = inr (rw new.mix new.words); due = refl } in
     record {
       ready = record { script = is; runs = new.runs; place = is_place is source; running = source.controller.phase_is; mix = new.mix; quiet = quiet_made source.controller; undone = λ i d there. (new.new i d there).results; stood = here; stands = stands };
       waits = is_waiting is destination;
@@ -132,7 +126,9 @@ opens {M} {session} {from_media} {to_media} {from} {to} is new source destinatio
         task = refl;
         phase = sym new.phase;
         side = sym new.side;
-        ahead = rw new.ahead (ahead_is s.head.migrate is.head.migrate);
+        tried = sym new.tried;
+        turns = sym new.turns;
+        owes = rw new.phase tt;
         lanes = stands;
         memory = sym (whole_memory is new.runs (have_made is source.windows) lanes);
         other = sym destination.media_are;

@@ -1,4 +1,4 @@
-use Rattle.std.proofs.Common.{◌≡◌, ℕ, ◌+◌, ◌-◌, ◌<◌, ◌≤◌, All, List, [], ◌∷◌, length, slice_index_or, refl, sym, ap, ◌∙◌, arith, ◌↔◌}
+use Rattle.std.proofs.Common.{◌≡◌, ℕ, ◌+◌, ◌-◌, ◌*◌, ◌<◌, ◌≤◌, All, List, [], ◌∷◌, length, slice_index_or, refl, sym, ap, subst, ◌∙◌, arith, ◌↔◌}
 use Rattle.nvm_model.specs.declared.script.Script.{Script}
 use Rattle.nvm_model.specs.History.{Complete, IsLaneComplete}
 use Rattle.nvm_model.specs.Ring.{places_between}
@@ -15,7 +15,7 @@ use Rattle.nvm_model.specs.Run.{among}
 use Rattle.turns.proofs.PartLaws.{at_rest_from, first_of, later_of, served_from}
 use Rattle.session.specs.declared.lane_run.LaneRun.{LaneRun}
 use Rattle.session.specs.Lanes.{IsComplete, IsRunOf, Stands}
-use Rattle.session.specs.Place.{AreQuiet, AreRunsOf, StandsFor, run_work, total_work}
+use Rattle.session.specs.Place.{AreQuiet, AreRunsOf, IsReady, Machine, StandsFor, run_work, total_work}
 use Rattle.session.proofs.AllLanesLemmas.{all_lanes, quiet_at}
 use Rattle.turns.proofs.ScriptLaws.{set_fits}
 
@@ -113,3 +113,34 @@ pub work_is : {s : Script} {runs : List LaneRun} {controller : ControllerState} 
 work_is {s} {runs} {controller} {lanes = lanes} is are quiet stands = work_from s 1 runs controller lanes (are.count ∙ sym stands.count) (λ k d first there.
     let few : k ≤ s.head.lanes = omega (arith, there, stands.count) in
     lane_work (are.each k d first few) (set_fits s.head k is.head first few) (stands.each k d (new_lane 0) first few) (quiet_at controller quiet k))
+
+-- What is left at the start.
+
+works_few : (most k : ℕ) (runs : List LaneRun) (controller : ControllerState) → ((j : ℕ) (d : LaneRun) → k ≤ j → j < k + length runs → run_work (slice_index_or runs (j - k) d) (pair_of controller j) ≤ most) → total_work k runs controller ≤ most * length runs
+works_few most k [] controller each = omega arith
+works_few most k (run ∷ runs) controller each =
+    let first : run_work run (pair_of controller k) ≤ most = subst (λ (r : LaneRun). run_work r (pair_of controller k) ≤ most) (first_of k run runs run) (each k run (omega arith) (omega arith)) in
+    let others = works_few most (k + 1) runs controller (λ j d later there.
+    subst (λ (r : LaneRun). run_work r (pair_of controller j) ≤ most) (later_of k j run runs d later) (each j d (omega (arith, later)) (omega (arith, there)))) in
+    omega (arith, first, others)
+
+-- a lane between two turns has few acts and entries left
+lane_few : {s : Script} {k : ℕ} {run : LaneRun} {pair : PairState} {window : WindowState} {lane : Lane} → IsRunOf s k run → IsSet (set_of s.head k) → Stands s k run pair window lane → pair.commands ≡ [] → run_work run pair ≤ 262400
+lane_few {s} {k} {run} {pair} {lane = lane} is set stands between =
+    let o = stands.ordered in
+    let work = lane_work is set stands between in
+    let rest = lane_rests is stands between in
+    let none : length lane.running ≡ 0 = ap length rest.none in
+    let acts : length run.script.acts.items ≡ length (acts_of k s.acts) = ap length is.script.acts_are ∙ ap (λ (j : ℕ). length (acts_of j s.acts)) is.lane in
+    let told = told_few o.tells lane.reaped o.reaped in
+    omega (arith, work, none, acts, is.script.few, o.untold, told, o.fetched, o.reaped, rest.posted, set.1)
+
+-- a machine between two turns has few enough turns before it
+pub few_turns : {M : Type 0} {s : Script} {m : Machine M} → IsReady s m → total_work 1 m.runs m.place.controller ≤ 2099200
+few_turns {s = s} {m} ready =
+    let each : (j : ℕ) (d : LaneRun) → 1 ≤ j → j < 1 + length m.runs → run_work (slice_index_or m.runs (j - 1) d) (pair_of m.place.controller j) ≤ 262400 =
+    λ j d first there.
+    let few : j ≤ s.head.lanes = omega (arith, there, ready.runs.count) in
+    lane_few (ready.runs.each j d first few) (set_fits s.head j ready.script.head first few) (ready.stands.lanes.each j d (new_lane 0) first few) (quiet_at m.place.controller ready.quiet j) in
+    let all = works_few 262400 1 m.runs m.place.controller each in
+    omega (arith, all, ready.runs.count, ready.script.head.lanes.1)

@@ -6,6 +6,7 @@ use Rattle.nvm_values.specs.declared.op.Op.{Op}
 use Rattle.nvm_values.specs.declared.op.Op.TheVariants.{Flush, Write, Read, Compare, WriteZeroes, Verify}
 use Rattle.nvm_model.specs.declared.command.Outcome.{Outcome}
 use Rattle.nvm_model.specs.declared.command.Outcome.TheVariants.{Done, Faulted, Differs}
+use Rattle.nvm_model.specs.declared.command.Work.{Work}
 use Rattle.nvm_model.specs.declared.piece.Piece.{Piece}
 use Rattle.nvm_model.specs.declared.piece.PieceResult.{PieceResult}
 use Rattle.nvm_model.specs.declared.run.Side.{Side}
@@ -16,6 +17,7 @@ use Rattle.nvm_model.specs.declared.trace.Step.{Step}
 use Rattle.nvm_model.specs.declared.trace.Step.TheVariants.{Get, Put}
 use Rattle.nvm_model.specs.Chain.{Chain}
 use Rattle.nvm_model.specs.Medium.{At, IsAt, MediumState, all_at}
+use Rattle.nvm_model.specs.Owed.{Owed}
 use Rattle.nvm_model.specs.Piece.{MovesTo, OutcomeFits, done_blocks}
 use Rattle.nvm_model.specs.Run.{PieceCalled}
 use Rattle.nvm_model.specs.Trace.{good_calls, moved_count, piece_calls, step_of}
@@ -106,7 +108,8 @@ served_piece {M} {I} {state} {moves} {piece} {result} {old} {new} does =
     let count : ℕ = changed_count piece result.outcome in
     let memory : List (List ℕ) = data_pages (window_of old.windows piece.lane) in
     let calls : List At = all_at (first / shelf) (piece_calls piece (first % shelf) memory does.moved result.outcome) in
-    let one : PieceCalled = record { lane = piece.lane; cid = piece.cid; first = first; count = piece.span.count; outcome = result.outcome; digest = digest_told piece.op result.digest; calls = calls } in
+    let work : Work = record { op = piece.op; span = piece.span; pages = piece.pages; done = 0 } in
+    let one : PieceCalled = record { lane = piece.lane; cid = piece.cid; first = first; count = piece.span.count; outcome = result.outcome; digest = digest_told piece.op result.digest; work = work; calls = calls } in
     let put = changed_put piece shelf (first / shelf) (first % shelf) memory does.moved _ piece.op result.outcome does.done.count does.done.fits ∙ ap (λ (b : ℕ). range_with_len b count) (div-add-mod' first shelf) in
     record {
       pieces = one ∷ [];
@@ -134,7 +137,7 @@ served_more {M} {I} {state} {moves} {a} {b} {c} x y =
 -- What a move and a run leave of both places.
 
 -- the guests stayed
-pub stayed_leaves : {M I : Type 0} {state : M → MediumState I} {moves : I → Step → Bool → I → Type 0} {s : Script} {old new : Both M} → old.from.controller.phase ≡ phase.Running → Stays state moves s old new → Leaves Source old new
+pub stayed_leaves : {M I : Type 0} {state : M → MediumState I} {moves : I → Step → Bool → I → Type 0} {s : Script} {n : ℕ} {owed : Owed} {old new : Both M} → old.from.controller.phase ≡ phase.Running → Stays state moves s n owed old new → Leaves Source old new
 stayed_leaves {old = old} {new} running stays =
     let from : ControllerState = old.from.controller in
     let fed : PartsState = record { lanes = length from.pairs; bytes = [] } in

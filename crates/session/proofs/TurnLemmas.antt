@@ -1,4 +1,4 @@
-use Rattle.std.proofs.Common.{◌≡◌, ◌<◌, All, List, [], ◌++◌, map, Bool, sym, ap, ◌∙◌, append_assoc, arith}
+use Rattle.std.proofs.Common.{◌≡◌, ◌<◌, ℕ, All, List, [], ◌∷◌, ◌++◌, map, Bool, refl, sym, ap, subst, ◌∙◌, append_assoc, arith}
 use Rattle.nvm_model.specs.declared.line.Line.{Line}
 use Rattle.nvm_model.specs.declared.script.Script.{Script}
 use Rattle.nvm_model.specs.declared.trace.Step.{Step}
@@ -8,14 +8,16 @@ use Rattle.nvm_model.specs.Turn.{InLanes, Plans, PostsAll}
 use Rattle.nvm_model.specs.World.{Lane}
 use Rattle.nvm_blocks.specs.Namespace.{NamespaceState, media_of}
 use Rattle.turns.specs.Frame.{Frame, total_left}
-use Rattle.nvm_model.specs.Run.{Here, NoneLeft, among, piece_line}
+use Rattle.nvm_model.specs.Run.{Here, IsItem, NoneLeft, PieceCalled, among, piece_line, pieces_of}
+use Rattle.nvm_model.specs.Run.Item.{Served}
+use Rattle.nvm_model.specs.Chain.{Chain}
 use Rattle.turns.proofs.FrameLemmas.{frame_less, frame_some, no_first}
 use Rattle.session.specs.declared.lane_run.LaneRun.{LaneRun}
 use Rattle.session.specs.Lanes.{IsComplete}
 use Rattle.session.specs.Phases.{DoesPieces, Fit}
 use Rattle.nvm_model.specs.Told.{serial}
 use Rattle.session.specs.Place.{AreQuiet, AreUndone, DoesTurn, IsReady, Machine, PlaceState, StandsFor, StandsOn, machine, total_work}
-use Rattle.turns.proofs.NextPieceLaws.{pieces_keep}
+use Rattle.turns.proofs.NextPieceLaws.{items_keep}
 use Rattle.session.proofs.RestLemmas.{are_served, at_rest, done_is, work_is}
 use Rattle.turns.specs.Parts.{Leads}
 
@@ -46,40 +48,49 @@ pub record Phases {M I : Type 0} (state : M → MediumState I) (moves : I → St
   pub undone : AreUndone new.runs
   pub mix : new.order.mix ≡ s.head.mix
 
+-- the pieces of items that are pieces
+served_pieces : (pieces : List PieceCalled) → pieces_of (map Served pieces) ≡ pieces
+served_pieces [] = refl
+served_pieces (p ∷ pieces) = ap (λ (ps : List PieceCalled). p ∷ ps) (served_pieces pieces)
+
 -- from lanes on they are a turn, and less is left
 phases_from : {M I : Type 0} {state : M → MediumState I} {moves : I → Step → Bool → I → Type 0} {s : Script} {old new : Machine M} {events : List Line} → Phases state moves s old new events → (h : Here M) → StandsOn s old h →
     (turn : DoesTurn state moves s h events new) × (total_left s 1 turn.new.lanes < total_left s 1 h.lanes)
 phases_from {M} {state = state} {moves} {s} {old} {new} {events} p h stands =
     let plan = p.plan h.lanes stands.lanes in
-    let planned : Here M = record h { lanes = plan.new } in
+    let planned : Here M = record h { lanes = plan.new; due = [] } in
     let media : h.media ≡ media_of p.planned_place.namespace = stands.media ∙ sym p.plan_kept in
-    let works = p.works planned (record { lanes = plan.stands; media = media; words = stands.words }) in
+    let works = p.works planned (record { lanes = plan.stands; media = media; words = stands.words; due = refl }) in
     let posts = p.posts works.new.lanes works.stands.lanes in
     let is = p.ready.script in
     let rest = at_rest is p.ready.runs p.ready.quiet stands.lanes in
     let served = are_served s h.lanes is stands.lanes.count in
     let not_complete : Complete s (among h.lanes) → ⊥ = λ complete. p.due (done_is is p.ready.runs stands.lanes complete) in
-    let frame : Frame s h.lanes plan.added plan.new works.new.lanes posts.added posts.new = record { planning = plan.part; kept = pieces_keep state moves (serial s) planned works.part.pieces works.new works.part.working; posting = posts.part } in
+    let frame : Frame s h.lanes plan.added plan.new works.new.lanes posts.added posts.new = record { planning = plan.part; kept = items_keep state moves (serial s) planned (map Served works.part.pieces) works.new works.part.working; posting = posts.part } in
     let lines : plan.added ++ (works.added ++ posts.added) ≡ events =
     sym (append_assoc plan.added works.added posts.added) ∙ ap (λ (es : List Line). (es ++ works.added) ++ posts.added) (sym plan.events_are) ∙ ap (λ (es : List Line). es ++ posts.added) (sym works.events_are) ∙ sym posts.events_are in
-    let own : events ≡ plan.added ++ (map piece_line works.part.pieces ++ posts.added) = sym lines ∙ ap (λ (es : List Line). plan.added ++ (es ++ posts.added)) works.part.lines_are in (
+    let own : events ≡ plan.added ++ (map piece_line (pieces_of (map Served works.part.pieces)) ++ posts.added) =
+    sym lines ∙ ap (λ (es : List Line). plan.added ++ (es ++ posts.added)) works.part.lines_are ∙ ap (λ (ps : List PieceCalled). plan.added ++ (map piece_line ps ++ posts.added)) (sym (served_pieces works.part.pieces)) in
+    let working : Chain (IsItem state moves (serial s)) planned (map Served works.part.pieces) (record works.new { due = [] }) =
+    subst (λ (due : List ℕ). Chain (IsItem state moves (serial s)) planned (map Served works.part.pieces) (record works.new { due = due })) works.stands.due works.part.working in (
       record {
-        done = record { plan = plan.added; pieces = works.part.pieces; posts = posts.added };
+        done = record { plan = plan.added; items = map Served works.part.pieces; posts = posts.added };
         new = record works.new { lanes = posts.new };
         turn = record {
           planned = plan.new;
           worked = works.new.lanes;
           planning = plan.part;
-          working = works.part.working;
+          working = working;
           all = p.finished works.new.lanes works.stands.lanes;
           posting = posts.part;
-          due = not_complete;
-          some = λ none. frame_some is.head.burst.0 rest served not_complete frame (no_first plan.added _ none);
         };
+        some = λ none. frame_some is.head.burst.0 rest served not_complete frame (no_first plan.added _ none);
+        beside = works.part.beside;
         stands = record {
           lanes = posts.stands;
           media = works.stands.media ∙ ap (λ (n : NamespaceState M). media_of n) (sym p.posts_kept);
           words = works.stands.words;
+          due = works.stands.due;
         };
         events_are = own;
       },

@@ -24,7 +24,8 @@ use Rattle.lanes.specs.Guest.{GuestState}
 use Rattle.ctl_state.specs.Controller.{ControllerState, PairState, pair_of}
 use Rattle.controller.specs.Pair.{lane_pieces, outcomes_of, worked, IsSameButPair, IsPlanned}
 use Rattle.turns.proofs.NextPieceLaws.{lanes_finished}
-use Rattle.nvm_model.specs.Run.{Here, IsPiece, MayBeNext, NoneLeft, piece_line}
+use Rattle.nvm_model.specs.Run.{Here, IsItem, IsPiece, Item, MayBeNext, NoneLeft, PieceCalled, piece_line}
+use Rattle.nvm_model.specs.Run.Item.{Served}
 use Rattle.session.specs.declared.lane_run.LaneRun.{LaneRun}
 use Rattle.session.specs.declared.lane_script.LaneScript.{LaneScript}
 use Rattle.session.specs.Lanes.{ArePlanned, IsLaneOf, IsRunOf, Stands, window_of, HasDrawn}
@@ -205,7 +206,7 @@ plan_after {s = s} {runs} {plan = plan} {piece = piece} at number low does has i
 -- it is one of the model
 pub piece_leads : {M I : Type 0} {state : M → MediumState I} {moves : I → Step → Bool → I → Type 0} {s : Script} {runs new_runs : List LaneRun} {plan : PlanState} {old new : PlaceState M} {piece : Piece} {result : PieceResult} {h : Here M} (at : ℕ) (events : List Line) →
     HasPlan s runs plan old → HasPieceLeft s at runs plan → ((d : LaneRun) (none : Piece) → piece ≡ slice_index_or (pieces_of plan (at + 1)) (length (slice_index_or runs at d).results.items) none) →
-    DoesPieceAt state moves piece result old new → HasResultAt at result runs new_runs → StandsOver s runs old h → MayBeNext (serial s) h.drawn h.lanes (at + 1) →
+    DoesPieceAt state moves piece result old new → HasResultAt at result runs new_runs → StandsOver s runs old h → MayBeNext (serial s) h (at + 1) →
     Leads (DoesPieces state moves s) (StandsNext s new_runs new h.drawn) h events (events ++ piece_event piece result ∷ [])
 piece_leads {M} {I} {state} {moves} {s} {runs} {new_runs} {plan} {old} {new} {piece} {result} {h} at events has left piece_is does one over may =
     let there : at < length runs = omega (arith, left.there, has.fit.own.count) in
@@ -223,20 +224,19 @@ piece_leads {M} {I} {state} {moves} {s} {runs} {new_runs} {plan} {old} {new} {pi
     let stood : Stands s k run pair window lane = subst (λ (i : ℕ). Stands s k (slice_index_or runs i d) pair window lane) here (over.lanes.each k d (new_lane 0) (omega (arith, number)) (omega (arith, number, left.there))) in
     let memory : lane.pages ≡ data_pages window = stood.window_is.memory in
     let after = lane_after s pair run result new_window lane in
-    let new_here : Here M = record { lanes = slice_set h.lanes at after; media = media_of new.namespace; drawn = h.drawn + 1 } in
+    let new_here : Here M = record h { lanes = slice_set h.lanes at after; media = media_of new.namespace; drawn = h.drawn + 1 } in
     let done : IsPieceDone piece does.moved result lane.pages (data_pages new_window) = subst (λ (pages : List (List ℕ)). IsPieceDone piece does.moved result pages (data_pages new_window)) (sym memory) does.done in
-    let made : Chain (IsAt state moves) h.media (called s piece result lane.pages does.moved).calls (media_of new.namespace) =
-    subst (λ (media : List M). Chain (IsAt state moves) media (called s piece result lane.pages does.moved).calls (media_of new.namespace)) (sym over.media)
-    (subst (λ (pages : List (List ℕ)). Chain (IsAt state moves) (media_of old.namespace) (called s piece result pages does.moved).calls (media_of new.namespace)) (sym memory)
+    let made : Chain (IsAt state moves) h.media (called s next.work piece result lane.pages does.moved).calls (media_of new.namespace) =
+    subst (λ (media : List M). Chain (IsAt state moves) media (called s next.work piece result lane.pages does.moved).calls (media_of new.namespace)) (sym over.media)
+    (subst (λ (pages : List (List ℕ)). Chain (IsAt state moves) (media_of old.namespace) (called s next.work piece result pages does.moved).calls (media_of new.namespace)) (sym memory)
     (subst (λ (shelf : ℕ). Chain (IsAt state moves) (media_of old.namespace) (all_at (piece.span.first / shelf) (piece_calls piece (piece.span.first % shelf) (data_pages window) does.moved result.outcome)) (media_of new.namespace)) has.fit.at.namespace.shelf does.called)) in
-    let is : IsPiece state moves (serial s) h (called s piece result lane.pages does.moved) new_here = record {
+    let is : IsPiece state moves (serial s) h (called s next.work piece result lane.pages does.moved) new_here = record {
       there = (omega (arith, number), omega (arith, number, left.there, over.lanes.count));
-      next = subst (λ (j : ℕ). MayBeNext (serial s) h.drawn h.lanes j) (sym number) may;
+      next = subst (λ (j : ℕ). MayBeNext (serial s) h j) (sym number) may;
       lane = after;
       does = piece_does next result does.moved (data_pages new_window) lane stood.running done;
       called = made;
-      lanes_are = ap (λ (i : ℕ). slice_set h.lanes i after) (sym here);
-      drawn_is = refl;
+      after = ap (λ (i : ℕ). record h { lanes = slice_set h.lanes i after; media = media_of new.namespace; drawn = h.drawn + 1 }) (sym here);
     } in
     let stands : StandsFor s new_runs new.controller new.windows new_here.lanes =
     stands_more at k after (piece_same at number there (omega (arith, left.there, has.fit.at.windows.count)) does one) left.there
@@ -245,8 +245,8 @@ piece_leads {M} {I} {state} {moves} {s} {runs} {new_runs} {plan} {old} {new} {pi
     record {
       new = new_here;
       added = piece_event piece result ∷ [];
-      part = record { pieces = called s piece result lane.pages does.moved ∷ []; working = chain_one (IsPiece state moves (serial s)) h _ new_here is; lines_are = refl };
-      stands = record { over = record { lanes = stands; media = refl }; one = refl };
+      part = record { pieces = called s next.work piece result lane.pages does.moved ∷ []; working = chain_one (IsItem state moves (serial s)) h (Served (called s next.work piece result lane.pages does.moved)) new_here is; beside = refl; lines_are = refl };
+      stands = record { over = record { lanes = stands; media = refl; due = over.due }; one = refl };
       events_are = refl;
     }
 
@@ -256,7 +256,9 @@ piece_leads {M} {I} {state} {moves} {s} {runs} {new_runs} {plan} {old} {new} {pi
 pub does_more : {M I : Type 0} {state : M → MediumState I} {moves : I → Step → Bool → I → Type 0} {s : Script} {x : Here M} (y z : Here M) (first second : List Line) → DoesPieces state moves s x first y → DoesPieces state moves s y second z → DoesPieces state moves s x (first ++ second) z
 does_more {state = state} {moves} {s} {x} y z first second a b = record {
   pieces = a.pieces ++ b.pieces;
-  working = chain_more (IsPiece state moves (serial s)) x a.pieces y b.pieces z a.working b.working;
+  working = subst (λ (items : List Item). Chain (IsItem state moves (serial s)) x items z) (sym (map-append Served a.pieces b.pieces))
+      (chain_more (IsItem state moves (serial s)) x (map Served a.pieces) y (map Served b.pieces) z a.working b.working);
+  beside = b.beside ∙ a.beside;
   lines_are = ap (λ (l : List Line). l ++ second) a.lines_are ∙ ap (λ (l : List Line). map piece_line a.pieces ++ l) b.lines_are ∙ sym (map-append piece_line a.pieces b.pieces);
 }
 
@@ -267,7 +269,7 @@ works_on {order = order} drawn x = record {
   new = x.new;
   added = x.added;
   part = x.part;
-  stands = record { lanes = x.stands.over.lanes; media = x.stands.over.media; words = subst (λ (m : ℕ). HasDrawn m order) (sym x.stands.one) drawn };
+  stands = record { lanes = x.stands.over.lanes; media = x.stands.over.media; words = subst (λ (m : ℕ). HasDrawn m order) (sym x.stands.one) drawn; due = x.stands.over.due };
   events_are = x.events_are;
 }
 

@@ -9,7 +9,8 @@ use Rattle.nvm_model.specs.ScriptText.{IsHead}
 use Rattle.nvm_blocks.specs.Namespace.{media_of}
 use Rattle.hall.specs.Plan.{PlanState, pieces_of}
 use Rattle.ctl_state.specs.declared.phase.Phase.TheVariants.{Running}
-use Rattle.nvm_model.specs.Run.{Here, IsPiece, PieceCalled, piece_line}
+use Rattle.nvm_model.specs.Run.{Here, IsItem, PieceCalled, piece_line}
+use Rattle.nvm_model.specs.Run.Item.{Served}
 use Rattle.session.specs.declared.lane_run.LaneRun.{LaneRun}
 use Rattle.session.specs.Lanes.{ArePlanned}
 use Rattle.nvm_model.specs.Told.{serial}
@@ -61,14 +62,16 @@ pub record HasPieceLeft (s : Script) (at : ℕ) (runs : List LaneRun) (plan : Pl
 pub record StandsOver {M : Type 0} (s : Script) (runs : List LaneRun) (place : PlaceState M) (h : Here M) : Type 0 where
   pub lanes : StandsFor s runs place.controller place.windows h.lanes
   pub media : h.media ≡ media_of place.namespace
+  pub due : h.due ≡ []
 
 -- the same where one piece more was drawn
 pub record StandsNext {M : Type 0} (s : Script) (runs : List LaneRun) (place : PlaceState M) (drawn : ℕ) (h : Here M) : Type 0 where
   pub over : StandsOver s runs place h
   pub one : h.drawn ≡ drawn + 1
 
--- pieces were done on one thread, whose lines are these
+-- pieces were done on one thread, whose lines are these; they left the media of the other side
 pub record DoesPieces {M I : Type 0} (state : M → MediumState I) (moves : I → Step → Bool → I → Type 0) (s : Script) (old : Here M) (lines : List Line) (new : Here M) : Type 0 where
   pub pieces : List PieceCalled
-  pub working : Chain (IsPiece state moves (serial s)) old pieces new
+  pub working : Chain (IsItem state moves (serial s)) old (map Served pieces) new
+  pub beside : new.other ≡ old.other
   pub lines_are : lines ≡ map piece_line pieces

@@ -1,4 +1,4 @@
-use Rattle.std.specs.Prelude.{◌≡◌, ◌≢◌, ℕ, ◌-◌, ◌*◌, ◌+◌, ◌≤◌, All, Bool, List, [], ◌∷◌, length, map, slice_index_or}
+use Rattle.std.specs.Prelude.{◌≡◌, ◌≢◌, ℕ, ◌-◌, ◌*◌, ◌+◌, ◌≤◌, All, Bool, List, [], ◌∷◌, length, slice_index_or}
 use Rattle.nvm_model.specs.declared.script.Script.{Script}
 use Rattle.nvm_model.specs.Ring.{places_between}
 use Rattle.nvm_model.specs.ScriptText.{IsScript}
@@ -22,10 +22,6 @@ pub record PlaceState (M : Type 0) : Type 0 where
   pub namespace : NamespaceState M
   pub windows : List WindowState
   pub controller : ControllerState
-
--- the pages of a memory's windows
-abbrev pub pages_of : List WindowState → List (List (List ℕ))
-pages_of windows = map (λ (w : WindowState). w.pages) windows
 
 -- what goes where the guests go, and the place on which it stands
 pub record Machine (M : Type 0) : Type 0 where
@@ -69,11 +65,12 @@ pub record StandsFor (s : Script) (runs : List LaneRun) (controller : Controller
   pub each : (k : ℕ) (d : LaneRun) (e : Lane) → 1 ≤ k → k ≤ s.head.lanes
       → Stands s k (slice_index_or runs (k - 1) d) (pair_of controller k) (window_of windows k) (slice_index_or lanes (k - 1) e)
 
--- a machine stands for lanes over its media, where so many pieces were done
+-- a machine stands for lanes over its media, where so many pieces were done and no block is to be copied
 pub record StandsOn {M : Type 0} (s : Script) (m : Machine M) (h : Here M) : Type 0 where
   pub lanes : StandsFor s m.runs m.place.controller m.place.windows h.lanes
   pub media : h.media ≡ media_of m.place.namespace
   pub words : HasDrawn h.drawn m.order
+  pub due : h.due ≡ []
 
 -- a machine between two turns, whose controller runs
 pub record IsReady {M : Type 0} (s : Script) (m : Machine M) : Type 0 where
@@ -96,10 +93,12 @@ abbrev pub total_work : ℕ → List LaneRun → ControllerState → ℕ
 total_work k [] controller = 0
 total_work k (run ∷ runs) controller = run_work run (pair_of controller k) + total_work (k + 1) runs controller
 
--- a turn was done, whose events are these
+-- A turn was done, whose events are these. It has some, and left the media of the other side.
 pub record DoesTurn {M I : Type 0} (state : M → MediumState I) (moves : I → Step → Bool → I → Type 0) (s : Script) (old : Here M) (events : List Line) (m : Machine M) : Type 0 where
   pub done : TurnDone
   pub new : Here M
-  pub turn : IsTurn state moves (serial s) old done new
+  pub turn : IsTurn state moves (serial s) [] old done new
+  pub some : turn_lines done ≡ [] → ⊥
+  pub beside : new.other ≡ old.other
   pub stands : StandsOn s m new
   pub events_are : events ≡ turn_lines done

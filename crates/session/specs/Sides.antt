@@ -1,15 +1,16 @@
-use Rattle.std.specs.Prelude.{◌≡◌, ℕ, All, Bool, true, false, List, Option, Some, None}
+use Rattle.std.specs.Prelude.{◌≡◌, ◌⊎◌, ℕ, ◌+◌, ◌^◌, ◌<◌, ◌≤◌, All, Bool, true, false, List, Option, Some, None}
 use Rattle.nvm_model.specs.declared.script.Head.{Head}
 use Rattle.nvm_model.specs.declared.script.Script.{Script}
 use Rattle.nvm_model.specs.declared.trace.Step.{Step}
 use Rattle.nvm_model.specs.Medium.{MediumState}
 use Rattle.nvm_blocks.specs.Namespace.{media_of}
 use Rattle.nvm_model.specs.declared.run.RunPhase.{RunPhase}
-use Rattle.nvm_model.specs.declared.run.RunPhase.TheVariants.{New, Running, Over}
+use Rattle.nvm_model.specs.declared.run.RunPhase.TheVariants.{New, Running, Moving, Suspended, Stopped, Over}
 use Rattle.nvm_model.specs.declared.run.Side.{Side}
 use Rattle.nvm_model.specs.declared.run.Side.TheVariants.{Source, Destination}
 use Rattle.nvm_model.specs.Run.{SinkState, Snapshot, Went, here, memory_of}
-use Rattle.turns.specs.Ahead.{IsAhead, IsDueAfter, turns_ahead}
+use Rattle.nvm_model.specs.Owed.{Owed}
+use Rattle.guest_ram.specs.Ram.{all_pages}
 use Rattle.session.specs.declared.ending.Ending.{Ending}
 use Rattle.session.specs.declared.ending.Ending.TheVariants.{Done, GaveUp}
 use Rattle.session.specs.declared.lane_run.LaneRun.{LaneRun}
@@ -20,20 +21,21 @@ use Rattle.nvm_model.specs.Turn.{word_state}
 use Rattle.session.specs.Lanes.{IsComplete, IsNewRun}
 use Rattle.nvm_model.specs.Told.{serial}
 use Rattle.nvm_model.specs.World.{window_pages}
-use Rattle.manager.specs.declared.manager.MovePhase.TheVariants.{New as Unbegun}
+use Rattle.manager.specs.declared.manager.MovePhase.TheVariants.{New as Unbegun, Begun}
 use Rattle.manager.specs.declared.manager.MoveSet.{MoveSet}
 use Rattle.manager.specs.Move.{ManagerState, with_all}
-use Rattle.session.specs.Moves.{Both, HandsOver}
-use Rattle.session.specs.Place.{AreRunsOf, IsReady, IsWaiting, Machine, PlaceState, StandsOn, pages_of}
+use Rattle.session.specs.Moves.{Both, HandsOver, owed_by}
+use Rattle.session.specs.Place.{AreRunsOf, IsReady, IsWaiting, Machine, PlaceState, StandsOn, total_work}
 use Rattle.session.specs.Served.{Served}
 
--- What goes where the guests go: the script, the runs of its lanes, the order of pieces, and where the run is. A migration
--- is due after so many turns, where one is asked for and wasn't begun; a manager does it.
+-- What goes where the guests go: the script, the runs of its lanes, the order of pieces, how many turns were done, whether
+-- the migration was begun, and where the run is. A manager does the migration.
 pub record SessionState : Type 0 where
   pub script : Script
   pub runs : List LaneRun
   pub order : Order
-  pub ahead : Option ℕ
+  pub turns : ℕ
+  pub tried : Bool
   pub phase : RunPhase
   pub side : Side
   pub manager : ManagerState
@@ -55,16 +57,27 @@ sink taken faults = record { taken = taken; faults = faults }
 abbrev pub machine_of : {M : Type 0} → SessionState → PlaceState M → Machine M
 machine_of session place = record { runs = session.runs; order = session.order; place = place }
 
+-- while a migration is under way, the run owes what the manager does
+abbrev pub Owes : RunPhase → ManagerState → Owed → Type 0
+Owes New m owed = Unit {0}
+Owes Running m owed = Unit {0}
+Owes Moving m owed = owed ≡ owed_by m
+Owes Suspended m owed = owed ≡ owed_by m
+Owes Stopped m owed = Unit {0}
+Owes Over m owed = Unit {0}
+
 -- they stand for a run between two of its stages
 pub record StandsAs {M : Type 0} (m : Sides M) (t : Snapshot M) : Type 0 where
   pub task : t.task ≡ serial m.session.script
   pub phase : t.phase ≡ m.session.phase
   pub side : t.side ≡ m.session.side
-  pub ahead : IsAhead t.tried t.task.script.head.migrate t.turns m.session.ahead
+  pub tried : t.tried ≡ m.session.tried
+  pub turns : t.turns ≡ m.session.turns
+  pub owes : Owes m.session.phase m.session.manager t.owed
   pub lanes : StandsOn m.session.script (machine_of m.session m.at) (here t)
-  pub memory : memory_of t.task.script t.lanes ≡ pages_of m.at.windows
+  pub memory : memory_of t.task.script t.lanes ≡ all_pages m.at.windows
   pub other : t.other ≡ media_of m.other.namespace
-  pub left : t.left ≡ pages_of m.other.windows
+  pub left : t.left ≡ all_pages m.other.windows
   pub out : t.out ≡ m.out
 
 -- from a run between two stages it went on by stages
@@ -77,8 +90,16 @@ pub record GoesTo {M I : Type 0} (state : M → MediumState I) (moves : I → St
 abbrev pub Goes : {M I : Type 0} → (M → MediumState I) → (I → Step → Bool → I → Type 0) → Sides M → Bool → Sides M → Type 0
 Goes {M} state moves old failed new = (t : Snapshot M) → StandsAs old t → GoesTo state moves t failed new
 
+-- A migration that a script asks for, before the turn with some number, and that wasn't begun is due where that turn is next,
+-- or where all is done.
+pub record IsDueNow (tried : Bool) (asked : Option ℕ) (turns : ℕ) (done : Type 0) : Type 0 where
+  pub untried : tried ≡ false
+  pub turn : ℕ
+  pub asked_is : asked ≡ Some turn
+  pub when : (turns + 1 ≡ turn) ⊎ done
+
 abbrev pub IsMoveDue : SessionState → Type 0
-IsMoveDue s = IsDueAfter s.ahead (All IsComplete s.runs)
+IsMoveDue s = IsDueNow s.tried s.script.head.migrate s.turns (All IsComplete s.runs)
 
 -- what comes next
 abbrev pub IsNext : SessionState → Next → Type 0
@@ -86,16 +107,17 @@ IsNext s Turn = (All IsComplete s.runs → ⊥) × (IsMoveDue s → ⊥)
 IsNext s Move = IsMoveDue s
 IsNext s End = All IsComplete s.runs × (IsMoveDue s → ⊥)
 
--- a session stands on a place and does turns
+-- a session stands on a place and does turns, of which there can't be more than their count can tell
 pub record IsRunning {M : Type 0} (s : SessionState) (at : PlaceState M) : Type 0 where
   pub phase : s.phase ≡ Running
   pub ready : IsReady s.script (machine_of s at)
+  pub few : s.turns + total_work 1 s.runs at.controller < 2 ^ 32
 
 -- a session went on by turns, and can do more
 pub record IsOnward {M I : Type 0} (state : M → MediumState I) (moves : I → Step → Bool → I → Type 0) (old : SessionState) (old_at : PlaceState M) (new : SessionState) (at : PlaceState M) : Type 0 where
   pub script : new.script ≡ old.script
   pub side : new.side ≡ old.side
-  pub ahead : (old.ahead ≡ None → new.ahead ≡ None) × (new.ahead ≡ None → old.ahead ≡ None)
+  pub tried : new.tried ≡ old.tried
   pub manager : new.manager ≡ old.manager
   pub served : Served state moves old_at at
   pub running : IsRunning new at
@@ -115,6 +137,11 @@ move_set h = record { blocks = h.blocks; ram_pages = window_pages h; slice = h.s
 abbrev pub IsNewManager : Script → ManagerState → Type 0
 IsNewManager s m = m ≡ with_all false Unbegun (move_set s.head)
 
+-- all that such a move owes at its start may be copied while the guests are suspended
+pub record MovesAtOnce (head : Head) : Type 0 where
+  pub blocks : head.blocks ≤ head.small
+  pub pages : window_pages head ≤ head.pages
+
 -- a session on the source may move to a place that waits
 pub record MayMove {M : Type 0} (s : SessionState) (at to : PlaceState M) : Type 0 where
   pub running : IsRunning s at
@@ -122,6 +149,7 @@ pub record MayMove {M : Type 0} (s : SessionState) (at to : PlaceState M) : Type
   pub source : s.side ≡ Source
   pub waits : IsWaiting s.script to
   pub manager : IsNewManager s.script s.manager
+  pub at_once : MovesAtOnce s.script.head
 
 -- where the guests go on, and what became of the controllers
 abbrev pub IsMoved : {M : Type 0} → Ending → Both M → SessionState → Both M → Type 0
@@ -131,7 +159,13 @@ IsMoved GaveUp old s new = (s.side ≡ Source) × IsRunning s new.from × HandsO
 -- the migration that was asked for was begun
 pub record HasBegun (old new : SessionState) : Type 0 where
   pub script : new.script ≡ old.script
-  pub ahead : new.ahead ≡ None
+  pub tried : new.tried ≡ true
+
+-- the guests may be suspended: all is owed, and few enough
+pub record MaySuspend (s : SessionState) : Type 0 where
+  pub phase : s.phase ≡ Moving
+  pub owes : s.manager ≡ with_all true Begun (move_set s.script.head)
+  pub at_once : MovesAtOnce s.script.head
 
 -- the sides by the one on which a session stands
 abbrev pub at_side : {X : Type 0} → Side → X → X → X
@@ -162,7 +196,8 @@ pub record IsNewSession (s : Script) (session : SessionState) : Type 0 where
   pub new : All (IsNewRun s) session.runs
   pub mix : session.order.mix ≡ s.head.mix
   pub words : session.order.words ≡ word_state s.head.mix 0
-  pub ahead : session.ahead ≡ turns_ahead s.head.migrate
+  pub turns : session.turns ≡ 0
+  pub tried : session.tried ≡ false
   pub phase : session.phase ≡ New
   pub side : session.side ≡ Source
   pub manager : IsNewManager s session.manager

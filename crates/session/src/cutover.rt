@@ -1,8 +1,8 @@
 // A whole cutover, or one that is given up.
-ghost use Rattle.std.specs.Prelude.{◌≡◌, ◌^◌, ◌≤◌, ℕ};
+ghost use Rattle.std.specs.Prelude.{◌≡◌, ◌^◌, ◌<◌, ◌≤◌, ℕ};
 ghost use Rattle.manager.specs.Move.{Fits, MayCutOver};
-ghost use Rattle.manager.specs.declared.manager.MovePhase.TheVariants.{New};
-ghost use Rattle.session.specs.Moves.{Brings, begun};
+ghost use Rattle.manager.specs.declared.manager.MovePhase.TheVariants.{Begun};
+ghost use Rattle.session.specs.Moves.{Brings};
 ghost use Rattle.session.specs.Port.{moves_port, port_of};
 
 use crate::dest::Dest;
@@ -11,39 +11,42 @@ use crate::port::Move;
 use manager::{Manager, MediumFault, Pause, Port};
 use mig_medium::Medium;
 
-/// Brings blocks, memory and state from a place to another side, or gives the move up where a call of a medium fails.
+/// Brings blocks, memory and state from a place to another side after turn `t`, or gives the move up where a call of a
+/// medium fails.
 ///
 /// # Errors
 ///
 /// `MediumFault` only where that side's count of faults rose. The place then goes on.
 pub(crate) fn cut_over<M: Medium, D: Dest>(
+    t: u64,
     manager: &mut Manager,
     at: &mut Place<M>,
     to: &mut D,
 ) -> Result<Pause, MediumFault>
-    requires new { manager.old.phase ≡ New }
-    requires fits { (names : ℕ × ℕ) → Fits (begun manager.old.set) (port_of M.state names at.old (D.state to.old))
+    requires turn { t < 2 ^ 62 }
+    requires begun { manager.old.phase ≡ Begun }
+    requires fits { (names : ℕ × ℕ) → Fits manager.old (port_of M.state names at.old (D.state to.old))
         × MayCutOver (port_of M.state names at.old (D.state to.old)) }
     requires left { 2 ^ 19 ≤ (D.state to.old).left }
-    ensures { (names : ℕ × ℕ) × Brings (moves_port M.state M.moves D.moves) (begun manager.old.set) result
+    ensures { (names : ℕ × ℕ) × Brings (moves_port M.state M.moves D.moves) t manager.old result
         (port_of M.state names at.old (D.state to.old)) (port_of M.state names at.new (D.state to.new)) }
 {
     let mut port = Move::between(at, to);
-    bring(manager, &mut port)
+    bring(t, manager, &mut port)
 }
 
 /// The same over a port.
-fn bring<P: Port>(manager: &mut Manager, port: &mut P) -> Result<Pause, MediumFault>
-    requires new { manager.old.phase ≡ New }
-    requires fits { Fits (begun manager.old.set) (P.state port.old) × MayCutOver (P.state port.old) }
+fn bring<P: Port>(t: u64, manager: &mut Manager, port: &mut P) -> Result<Pause, MediumFault>
+    requires turn { t < 2 ^ 62 }
+    requires begun { manager.old.phase ≡ Begun }
+    requires fits { Fits manager.old (P.state port.old) × MayCutOver (P.state port.old) }
     requires left { 2 ^ 19 ≤ (P.state port.old).left }
-    ensures { Brings P.moves (begun manager.old.set) result (P.state port.old) (P.state port.new) }
+    ensures { Brings P.moves t manager.old result (P.state port.old) (P.state port.new) }
 {
-    let _due = manager.begin();
-    match manager.cut_over(0, port) {
+    match manager.cut_over(t, port) {
         Ok(pause) => Ok(pause),
         Err(fault) => {
-            manager.give_up(0, port);
+            manager.give_up(t, port);
             Err(fault)
         }
     }

@@ -109,7 +109,7 @@ fn do_piece<M: Medium>(
     requires room { vec_len events.old < vec_capacity events.old }
     ensures works { (h : Here M)
         → StandsOver script.now runs.old.items place.old h
-        → MayBeNext (serial script.now) h.drawn h.lanes (due.at + 1)
+        → MayBeNext (serial script.now) h (due.at + 1)
         → Leads (DoesPieces M.state M.moves script.now) (StandsNext script.now runs.new.items place.new h.drawn)
         h events.old.items events.new.items }
     ensures done { HasDone due plan.now runs.old.items runs.new.items

@@ -1,10 +1,9 @@
-ghost use Rattle.std.specs.Prelude.{◌≡◌, ◌≤◌, All, IfOk, IfSome, IsTrue};
+ghost use Rattle.std.specs.Prelude.{◌≡◌, ◌≤◌, All, IfOk, IsTrue};
 ghost use Rattle.nvm_model.specs.ScriptText.{IsHead, IsScript};
 ghost use Rattle.nvm_model.specs.World.{window_pages};
 ghost use Rattle.session.specs.Lanes.{IsNewRun};
 ghost use Rattle.session.specs.Place.{AreRunsOf};
-ghost use Rattle.turns.specs.Ahead.{IsDueAfter, turns_ahead};
-ghost use Rattle.session.specs.Sides.{IsNewSession, IsNext, move_set};
+ghost use Rattle.session.specs.Sides.{IsDueNow, IsNewSession, IsNext, move_set};
 
 use crate::lane_run::LaneRun;
 use crate::order::Order;
@@ -29,8 +28,10 @@ pub struct Session {
     // Lane 1 first.
     runs: Vec<LaneRun>,
     order: Order,
-    // How many turns come before a migration that is asked for and wasn't begun.
-    ahead: Option<u32>,
+    // How many were done.
+    turns: u32,
+    // Whether the migration was begun.
+    tried: bool,
     phase: RunPhase,
     side: Side,
     manager: Manager,
@@ -50,7 +51,8 @@ impl Model for Session {
       script = s.script;
       runs = s.runs.items;
       order = s.order;
-      ahead = s.ahead;
+      turns = s.turns;
+      tried = s.tried;
       phase = s.phase;
       side = s.side;
       manager = s.manager;
@@ -83,7 +85,6 @@ impl Session {
         let head = &script.head;
         let count = usize::from(head.lanes);
         let order = Order::new(head.mix);
-        let ahead = turns_ahead(head.migrate);
         let manager = Manager::make(alloc, move_set(head))?;
         let plan = Plan::make(alloc, head.lanes, MOST_PIECES * head.burst as usize)?;
         let events = Vec::with_capacity(alloc, MOST_EVENTS * count)?;
@@ -92,7 +93,8 @@ impl Session {
             script,
             runs,
             order,
-            ahead,
+            turns: 0,
+            tried: false,
             phase: RunPhase::New,
             side: Side::Source,
             manager,
@@ -106,7 +108,7 @@ impl Session {
         ensures { IsNext self.now result }
     {
         let complete = are_all_done(&self.runs);
-        if is_due(self.ahead, complete) {
+        if is_due(self.tried, self.script.head.migrate, self.turns, complete) {
             return Next::Move;
         }
         if complete {
@@ -116,25 +118,14 @@ impl Session {
     }
 }
 
-/// Whether a migration is due: no turn comes before it, or all is done.
-fn is_due(ahead: Option<u32>, done: bool) -> bool
-    ensures due { IsTrue result → IsDueAfter ahead (IsTrue done) }
-    ensures not { IsDueAfter ahead (IsTrue done) → IsTrue result }
-{
-    match ahead {
-        Some(turns) => done || turns == 0,
-        None => false,
-    }
-}
-
-/// How many turns come before a migration that is asked for before the turn with a number.
-fn turns_ahead(migrate: Option<u32>) -> Option<u32>
-    requires { IfSome migrate (λ turn. 1 ≤ turn) }
-    ensures { result ≡ turns_ahead migrate }
+/// Whether a migration is due: it wasn't tried, and it is asked for before the next turn, or all is done.
+fn is_due(tried: bool, migrate: Option<u32>, turns: u32, done: bool) -> bool
+    ensures due { IsTrue result → IsDueNow tried migrate turns (IsTrue done) }
+    ensures not { IsDueNow tried migrate turns (IsTrue done) → IsTrue result }
 {
     match migrate {
-        Some(turn) => Some(turn - 1),
-        None => None,
+        Some(turn) => !tried && (done || u64::from(turns) + 1 == u64::from(turn)),
+        None => false,
     }
 }
 

@@ -1,10 +1,10 @@
 // A whole run on one thread.
-ghost use Rattle.std.specs.Prelude.{◌≡◌, is_err, IfOk, None};
+ghost use Rattle.std.specs.Prelude.{◌≡◌, is_err, IfOk, IfSome, true};
 ghost use Rattle.nvm_model.specs.declared.run.RunPhase.TheVariants.{Over};
 ghost use Rattle.session.specs.Moves.{both};
 ghost use Rattle.session.specs.Place.{IsReady, IsWaiting, PlaceState};
 ghost use Rattle.session.specs.Served.{HasLeft, Served};
-ghost use Rattle.session.specs.Sides.{Goes, HasEnded, IsNewSession, IsRunning, by_side, machine_of, sides, sink};
+ghost use Rattle.session.specs.Sides.{Goes, HasEnded, IsNewSession, IsRunning, MovesAtOnce, by_side, machine_of, sides, sink};
 
 use crate::{Ending, Place, Session};
 use mig_base::{Failed, Sink};
@@ -24,6 +24,7 @@ pub fn run<M: Medium, K: Sink>(
     requires new { IsNewSession session.old.script session.old }
     requires ready { IsReady session.old.script (machine_of session.old from.old) }
     requires waits { IsWaiting session.old.script to.old }
+    requires at_once { IfSome session.old.script.head.migrate (λ _. MovesAtOnce session.old.script.head) }
     ensures went { Goes M.state M.moves
         (sides session.old from.old to.old (sink (K.bytes out.old) (K.faults out.old))) (is_err result)
         (by_side session.new from.new to.new (sink (K.bytes out.new) (K.faults out.new))) }
@@ -48,7 +49,7 @@ fn finish<M: Medium, K: Sink>(
     out: &mut K,
 ) -> Result<Ending, Failed>
     requires running { IsRunning session.old at.old }
-    requires tried { session.old.ahead ≡ None }
+    requires tried { session.old.tried ≡ true }
     ensures went { (other : PlaceState M) → Goes M.state M.moves
         (sides session.old at.old other (sink (K.bytes out.old) (K.faults out.old))) (is_err result)
         (sides session.new at.new other (sink (K.bytes out.new) (K.faults out.new))) }

@@ -519,6 +519,14 @@ parts_are_steps s Part keeps blocks done (lane ∷ lanes) k events new at parts 
     subst (λ (all : List Lane). Steps s (world (done ++ lane ∷ lanes)) events (world (done ++ all))) (sym parts.5) right
 
 -- a turn's events are steps
+-- the steps of a turn's plan, and of its posts
+pub turn_parts : {s : Script} {w : World} {events : List Line} {v : World} → (t : Turn s w events v) → Steps s w t.plan (record { blocks = w.blocks; lanes = t.planned }) × Steps s t.worked t.posts v
+turn_parts {s} {w} {events} {v} t = (
+  parts_are_steps s (Plans s) (plan_keeps s) w.blocks [] w.lanes 1 t.plan t.planned refl t.planning,
+  subst (λ (blocks : List (List ℕ)). Steps s t.worked t.posts (record { blocks = blocks; lanes = v.lanes })) (sym t.blocks)
+      (parts_are_steps s (PostsAll s) (posts_keep s) t.worked.blocks [] t.worked.lanes 1 t.posts v.lanes refl t.posting),
+)
+
 pub turn_steps : {s : Script} {w : World} {events : List Line} {v : World} → Turn s w events v → Steps s w events v
 turn_steps {s} {w} {events} {v} t =
     let planned : World = record { blocks = w.blocks; lanes = t.planned } in

@@ -11,10 +11,11 @@ use Rattle.nvm_model.specs.Turn.{left_in, pick_at, with_some, word_at}
 use Rattle.nvm_model.specs.World.{Lane, new_lane}
 use Rattle.nvm_model.proofs.ChainLemmas.{chain_keeps}
 use Rattle.turns.specs.Frame.{AreSameQueues, IsSameQueue}
-use Rattle.nvm_model.specs.Run.{Here, IsPiece, NoneLeft, PieceCalled, Task}
+use Rattle.nvm_model.specs.Run.{Here, IsItem, IsPiece, Item, NoneLeft, PieceCalled, Task}
+use Rattle.nvm_model.specs.Run.Item.{Served, Crossed}
 use Rattle.turns.proofs.FrameLemmas.{same_queues, same_queues_more, set_same_queues}
 
--- The pieces of a turn: whose is next, and what they leave.
+-- The pieces and copies of a turn: whose is next, and what they leave.
 
 -- Which lane is next.
 
@@ -69,7 +70,7 @@ none_some k (suc m ∷ others) none = absurd (omega (arith, none))
 
 -- a piece leaves the lanes' queues
 piece_keeps : {M I : Type 0} {state : M → MediumState I} {moves : I → Step → Bool → I → Type 0} {task : Task} {old new : Here M} {p : PieceCalled} → IsPiece state moves task old p new → AreSameQueues old.lanes new.lanes
-piece_keeps {old = old} {new} {p} is =
+piece_keeps {M} {old = old} {new} {p} is =
     let after = is.does.after in
     let lane = slice_index_or old.lanes (p.lane - 1) (new_lane 0) in
     let same : IsSameQueue lane is.lane = record {
@@ -80,12 +81,17 @@ piece_keeps {old = old} {new} {p} is =
       reaped = ap (λ l. l.reaped) after;
       running = ap (λ l. length l.running) after ∙ length-set lane.running is.does.place _;
     } in
-    subst (λ ls. AreSameQueues old.lanes ls) (sym is.lanes_are) (set_same_queues old.lanes (p.lane - 1) (new_lane 0) is.lane same)
+    subst (λ (h : Here M). AreSameQueues old.lanes h.lanes) (sym is.after) (set_same_queues old.lanes (p.lane - 1) (new_lane 0) is.lane same)
 
--- and so do all of a turn
-pub pieces_keep : {M I : Type 0} (state : M → MediumState I) (moves : I → Step → Bool → I → Type 0) (task : Task) (old : Here M) (pieces : List PieceCalled) (new : Here M) → Chain (IsPiece state moves task) old pieces new → AreSameQueues old.lanes new.lanes
-pieces_keep {M} state moves task old pieces new chain =
-    chain_keeps (IsPiece state moves task) (λ (h : Here M). AreSameQueues old.lanes h.lanes) (λ x p y one kept. same_queues_more old.lanes x.lanes y.lanes kept (piece_keeps one)) old pieces new chain (same_queues old.lanes)
+-- and so does a copy
+item_keeps : {M I : Type 0} (state : M → MediumState I) (moves : I → Step → Bool → I → Type 0) (task : Task) (old : Here M) (item : Item) (new : Here M) → IsItem state moves task old item new → AreSameQueues old.lanes new.lanes
+item_keeps state moves task old (Served p) new is = piece_keeps is
+item_keeps {M} state moves task old (Crossed c) new is = subst (λ (h : Here M). AreSameQueues old.lanes h.lanes) (sym is.after) (same_queues old.lanes)
+
+-- and all of a turn
+pub items_keep : {M I : Type 0} (state : M → MediumState I) (moves : I → Step → Bool → I → Type 0) (task : Task) (old : Here M) (items : List Item) (new : Here M) → Chain (IsItem state moves task) old items new → AreSameQueues old.lanes new.lanes
+items_keep {M} state moves task old items new chain =
+    chain_keeps (IsItem state moves task) (λ (h : Here M). AreSameQueues old.lanes h.lanes) (λ x item y one kept. same_queues_more old.lanes x.lanes y.lanes kept (item_keeps state moves task x item y one)) old items new chain (same_queues old.lanes)
 
 -- where nothing is left of any lane, no command has a piece left
 pub lanes_finished : (shelf : ℕ) (lanes : List Lane) → All (λ (n : ℕ). n ≡ 0) (map (left_in shelf) lanes) → NoneLeft shelf lanes

@@ -1,10 +1,12 @@
-use Rattle.std.proofs.Common.{◌≡◌, ◌==◌, ℕ, zero, suc, ◌+◌, ◌-◌, ◌%◌, ◌<◌, ◌≤◌, ⊎_elim, Bool, true, false, cond, List, [], ◌∷◌, Option, Some, None, IfSome, All, length, map, slice_get, slice_index_or, slice_set, sum, take, refl, sym, ap, subst, ◌∙◌, arith, mod-lt}
+use Rattle.std.proofs.Common.{◌≡◌, ◌==◌, ℕ, zero, suc, ◌+◌, ◌-◌, ◌%◌, ◌<◌, ◌≤◌, ⊎_elim, Bool, true, false, cond, List, [], ◌∷◌, Option, Some, None, IfSome, All, length, map, slice_get, slice_index_or, slice_set, sum, take, refl, sym, ap, subst, ◌∙◌, arith, mod-lt, ◌++◌}
 use Rattle.std.specs.List.{AllByRecursion}
 use Rattle.std.proofs.lemmas.Bool.{cases_eq}
 use Rattle.std.proofs.lemmas.List.Elements.{All-nil, All-cons}
 use Rattle.std.proofs.lemmas.List.Sums.{sum_by-cons, sum_by-set, sum-map}
 use Rattle.std.proofs.lemmas.Option.{same_Some, slice_get_within, get_or_from_slice_get}
-use Rattle.mig_base.proofs.ListLemmas.{all_at, none_of_sum}
+use Rattle.std.proofs.lemmas.List.{length-map}
+use Rattle.mig_base.proofs.ListLemmas.{all_at, none_of_sum, slice_get-push_cases}
+use Rattle.nvm_model.specs.Rounds.{InMixedOrder, picked_pieces}
 use Rattle.nvm_model.specs.declared.command.Command.{Command}
 use Rattle.nvm_model.specs.declared.command.Outcome.{Outcome}
 use Rattle.nvm_model.specs.declared.command.Work.{Work}
@@ -262,3 +264,77 @@ has_works s (suc m) n w left new_work =
     let fewer = sum_falls (left_in s.head.shelf) w.lanes (k - 1) next.element piece.new next.there piece.fewer in
     then_piece s n w k next.element refl has.past next.there piece
     (has_works s m (n + 1) (after_work w k piece) (omega (arith, left, fewer)) (all_set IsNewLane w.lanes (k - 1) piece.new new_work piece.new_work))
+
+-- With copies between them.
+
+-- all pieces from a world on, of which n were done before, and so many copies
+pub record HasMixed (s : Script) (n copies : ℕ) (w : World) : Type 0 where
+  pub picks : List (Option Line)
+  pub v : World
+  pub working : Works s w (picked_pieces picks) v
+  pub order : InMixedOrder s n copies w picks
+  pub calm : faults_shown (picked_pieces picks) ≡ 0
+
+sum_push : (xs : List ℕ) (c : ℕ) → sum (xs ++ c ∷ []) ≡ sum xs + c
+sum_push [] c = omega (arith, sum_by-cons (λ (n : ℕ). n) c [])
+sum_push (x ∷ xs) c = omega (arith, sum_push xs c, sum_by-cons (λ (n : ℕ). n) x (xs ++ c ∷ []), sum_by-cons (λ (n : ℕ). n) x xs)
+
+none_left : (s : Script) (lanes : List Lane) → AllByRecursion (λ (lane : Lane). left_in s.head.shelf lane ≡ 0) lanes →
+    AllByRecursion (λ (lane : Lane). AllByRecursion (λ (c : Command). pieces_left s.head.shelf c ≡ 0) lane.running) lanes
+none_left s [] none = tt
+none_left s (lane ∷ lanes) none = (none_of_sum (pieces_left s.head.shelf) lane.running none.0, none_left s lanes none.1)
+
+-- a piece that no fault stopped, before others without one
+calm_piece : (k cid first count : ℕ) (outcome : Outcome) (digest : Option (List ℕ)) (es : List Line) → is_faulted outcome ≡ false → faults_shown es ≡ 0 → faults_shown (line.Piece k cid first count outcome digest ∷ es) ≡ 0
+calm_piece k cid first count outcome digest es calm others = rw calm others
+
+-- a copy, and then the others
+then_copy : (s : Script) (n copies : ℕ) (w : World) → length w.lanes + 1 ≡ next_lane s.head.mix n (lefts s w ++ copies ∷ []) → HasMixed s (n + 1) (copies - 1) w → HasMixed s n copies w
+then_copy s n copies w next more = record { picks = None ∷ more.picks; v = more.v; working = more.working; order = (next, more.order); calm = more.calm }
+
+-- a piece of the lane that is next, and then the others
+then_mixed : (s : Script) (n copies : ℕ) (w : World) (k : ℕ) (lane : Lane) → k ≡ next_lane s.head.mix n (lefts s w ++ copies ∷ []) → 1 ≤ k → slice_get w.lanes (k - 1) ≡ Some lane → (piece : HasPiece s w.blocks lane) →
+    HasMixed s (n + 1) copies (after_work w k piece) → HasMixed s n copies w
+then_mixed s n copies w k lane next past there piece more =
+    let within = slice_get_within w.lanes (k - 1) lane there in
+    let here : lane_of w k ≡ lane = get_or_from_slice_get w.lanes (k - 1) lane (new_lane 0) there in
+    let e = line.Piece k piece.cid piece.first piece.count piece.outcome piece.digest in
+    let one : One s w e (after_work w k piece) = record {
+      there = (past, omega (arith, within));
+      blocks = piece.new_blocks;
+      lane = piece.new;
+      step = subst (λ (l : Lane). DoesPiece s piece.cid piece.first piece.count piece.outcome piece.digest w.blocks l piece.new_blocks piece.new) (sym here) piece.does;
+      after = refl;
+    } in
+    let calm = calm_piece k piece.cid piece.first piece.count piece.outcome piece.digest (picked_pieces more.picks) piece.calm more.calm in
+    record {
+      picks = Some e ∷ more.picks;
+      v = more.v;
+      working = record { are = (tt, more.working.are); steps = (after_work w k piece, one, more.working.steps); all = more.working.all };
+      order = (after_work w k piece, one, next, more.order);
+      calm = calm;
+    }
+
+-- all that are left can be done, whichever is next
+pub has_mixed : (s : Script) (m n copies : ℕ) (w : World) → sum (lefts s w) + copies ≡ m → AllByRecursion IsNewLane w.lanes → HasMixed s n copies w
+has_mixed s zero n copies w left new_work = record {
+  picks = [];
+  v = w;
+  working = record { are = tt; steps = refl; all = none_left s w.lanes (none_of_sum (left_in s.head.shelf) w.lanes (omega (arith, left))) };
+  order = omega (arith, left);
+  calm = refl;
+}
+has_mixed s (suc m) n copies w left new_work =
+    let all = lefts s w ++ copies ∷ [] in
+    let k = next_lane s.head.mix n all in
+    let has = next_has_some s.head.mix n all (omega (arith, left, sum_push (lefts s w) copies)) in
+    let count = length-map w.lanes (left_in s.head.shelf) in
+    ⊎_elim
+    (λ there.
+    let next = gives (left_in s.head.shelf) w.lanes (k - 1) (suc has.fewer) there in
+    let piece = has_piece s w.blocks next.element (all_there IsNewLane w.lanes (k - 1) next.element new_work next.there) (omega (arith, next.is)) in
+    let fewer = sum_falls (left_in s.head.shelf) w.lanes (k - 1) next.element piece.new next.there piece.fewer in
+    then_mixed s n copies w k next.element refl has.past next.there piece
+    (has_mixed s m (n + 1) copies (after_work w k piece) (omega (arith, left, fewer)) (all_set IsNewLane w.lanes (k - 1) piece.new new_work piece.new_work)))
+    (λ is. then_copy s n copies w (omega (arith, is.0, count, has.past)) (has_mixed s m (n + 1) (copies - 1) w (omega (arith, left, is.1)) new_work))
+    (slice_get-push_cases (lefts s w) copies (suc has.fewer) (k - 1) has.there)

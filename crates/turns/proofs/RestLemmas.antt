@@ -1,16 +1,21 @@
-use Rattle.std.proofs.Common.{◌≡◌, ℕ, zero, suc, ◌+◌, ◌-◌, ◌<◌, ◌≤◌, ◌⊎◌, inl, inr, ⊎_elim, List, [], ◌∷◌, ◌++◌, length, slice_index_or, sum, refl, subst, arith}
-use Rattle.std.specs.List.{AllByRecursion}
-use Rattle.std.proofs.lemmas.Bool.{cases_eq}
+use Rattle.std.proofs.Common.{◌≡◌, ℕ, zero, suc, ◌+◌, ◌-◌, ◌<◌, ◌≤◌, ◌⊎◌, inl, inr, ⊎_elim, List, [], ◌∷◌, ◌++◌, length, slice_index_or, sum, refl, subst, arith, Bool, true, false}
+use Rattle.std.specs.List.{AllByRecursion, flat_map}
+use Rattle.std.proofs.lemmas.Bool.{cases_eq, cases_lt}
 use Rattle.nvm_model.specs.declared.command.Command.{Command}
 use Rattle.nvm_model.specs.declared.line.Line.{Line}
+use Rattle.nvm_model.specs.declared.line.Line.TheVariants as line
 use Rattle.nvm_model.specs.declared.script.Script.{Script}
-use Rattle.nvm_model.specs.History.{Complete, IsLaneComplete, faults_shown}
+use Rattle.nvm_model.specs.History.{Complete, IsLaneComplete, Steps, faults_shown}
+use Rattle.nvm_model.specs.Owed.{Owed, Written, changes_of, owed_after, restarted_if, written_by}
+use Rattle.nvm_model.specs.Rounds.{InRounds, MovingTurn, RoundText, Wrote, copies_due, picked_pieces, round_text, work_at}
+use Rattle.nvm_model.specs.Run.{IsCutDue, IsLost, restart_line}
+use Rattle.nvm_model.specs.Told.{serial}
 use Rattle.nvm_model.specs.Piece.{pieces_left}
 use Rattle.nvm_model.specs.Turn.{InLanes, Plans, PostsAll, SerialTurn, Turn, Turns, events_in, lefts, pieces_in}
 use Rattle.nvm_model.specs.World.{Lane, World, acts_of, new_lane}
 use Rattle.turns.specs.Frame.{AreAtRest, AreServed, EndsInTurns, total_left}
-use Rattle.turns.proofs.FrameLemmas.{frame_less, frame_rest, frame_some, turn_frame}
-use Rattle.turns.proofs.OrderLemmas.{IsNewLane, has_works}
+use Rattle.turns.proofs.FrameLemmas.{frame_less, frame_rest, frame_some, turn_frame, turn_steps}
+use Rattle.turns.proofs.OrderLemmas.{IsNewLane, has_mixed, has_works}
 use Rattle.turns.proofs.PlanLemmas.{calm_more, has_plan, has_posts, quiet_or_not}
 
 -- From a world at rest the run can be brought to its end turn by turn, with no fault.
@@ -194,3 +199,123 @@ turns_up_to s n (suc limit) w burst rest served =
     let turn = can_turn s n w burst rest served due in
     then_turns turn (turns_up_to s (n + pieces_in turn.events) limit turn.v burst turn.rest turn.served))
     (complete_or_not s w rest)
+
+-- Rounds.
+
+-- a turn of a migration can be done from a world at rest, with no fault
+pub record CanMove (s : Script) (n copies : ℕ) (w : World) : Type 0 where
+  pub events : List Line
+  pub v : World
+  pub turn : MovingTurn s n copies w events v
+  pub calm : faults_shown events ≡ 0
+  pub rest : AreAtRest s 1 v.lanes
+  pub served : AreServed s 1 v.lanes
+
+pub can_move : (s : Script) (n copies : ℕ) (w : World) → 1 ≤ s.head.burst → AreAtRest s 1 w.lanes → AreServed s 1 w.lanes → CanMove s n copies w
+can_move s n copies w burst rest served =
+    let plans = has_plans s 1 w.lanes rest in
+    let mid : World = record { blocks = w.blocks; lanes = plans.new } in
+    let works = has_mixed s (sum (lefts s mid) + copies) n copies mid refl plans.new_work in
+    let pieces = picked_pieces works.picks in
+    let posts = are_posted s 1 works.v.lanes works.working.all in
+    let events = plans.events ++ (pieces ++ posts.events) in
+    let v : World = record { blocks = works.v.blocks; lanes = posts.new } in
+    let turn : Turn s w events v = record {
+      plan = plans.events;
+      pieces = pieces;
+      posts = posts.events;
+      events_are = refl;
+      planned = plans.new;
+      worked = works.v;
+      planning = plans.planning;
+      working = works.working;
+      posting = posts.posting;
+      blocks = refl;
+    } in
+    let frame = turn_frame turn in
+    let after = frame_rest rest served frame in
+    record {
+      events = events;
+      v = v;
+      turn = record {
+        turn = turn;
+        picks = works.picks;
+        pieces = refl;
+        order = works.order;
+        some = λ none. ⊎_elim (λ complete. complete) (λ due. absurd (frame_some burst rest served due frame (none_first plans.events (pieces ++ posts.events) none))) (complete_or_not s w rest);
+      };
+      calm = calm_more plans.events (pieces ++ posts.events) plans.calm (calm_more pieces posts.events works.calm posts.calm);
+      rest = after.0;
+      served = after.1;
+    }
+
+-- what steps wrote
+pub record HasWritten (s : Script) (w : World) (events : List Line) (v : World) : Type 0 where
+  pub written : List Written
+  pub wrote : Wrote s w events written v
+
+pub has_written : (s : Script) (w : World) (events : List Line) (v : World) → Steps s w events v → HasWritten s w events v
+has_written s w [] v steps = record { written = []; wrote = (steps, refl) }
+has_written s w (e ∷ events) v steps =
+    let rest = has_written s steps.0 events v steps.2 in
+    record { written = written_by s (work_at s w e) e ∷ rest.written; wrote = (steps.0, rest.written, steps.1, refl, rest.wrote) }
+
+-- a queue may have lost a change exactly where there are more changes than cells
+pub record MayLose (s : Script) (changes copies : ℕ) : Type 0 where
+  pub lost : Bool
+  pub is : IsLost (serial s) changes copies lost
+
+may_lose : (s : Script) (changes copies : ℕ) → MayLose s changes copies
+may_lose s changes copies =
+    ⊎_elim (λ more. record { lost = true; is = record { only = λ is. more; always = λ is. refl; serial = λ a b c. refl } })
+    (λ few. record { lost = false; is = record { only = λ is. absurd cc; always = λ many. absurd (omega (arith, few, many)); serial = λ a b many. absurd (omega (arith, few, many)) } })
+    (cases_lt s.head.change changes)
+
+due_or_not : (s : Script) (owed : Owed) (k : ℕ) → IsCutDue s.head owed k ⊎ (IsCutDue s.head owed k → ⊥)
+due_or_not s owed k =
+    ⊎_elim (λ waits. ⊎_elim (λ many. inr (λ due. ⊎_elim (λ few. absurd (omega (arith, many, few.0))) (λ past. absurd (omega (arith, waits, past))) due))
+    (λ blocks. ⊎_elim (λ many. inr (λ due. ⊎_elim (λ few. absurd (omega (arith, many, few.1))) (λ past. absurd (omega (arith, waits, past))) due)) (λ pages. inl (inl (blocks, pages))) (cases_lt s.head.pages (length owed.pages))) (cases_lt s.head.small (length owed.blocks)))
+    (λ past. inl (inr past)) (cases_lt k s.head.patience)
+
+-- rounds after which a suspension is due
+pub record EndsInRounds (s : Script) (n k : ℕ) (w : World) (owed : Owed) : Type 0 where
+  pub rounds : List RoundText
+  pub v : World
+  pub left : Owed
+  pub drawn : ℕ
+  pub are : InRounds (serial s) n k w owed rounds v left drawn
+  pub due : IsCutDue s.head left (k + length rounds)
+  pub rest : AreAtRest s 1 v.lanes
+  pub served : AreServed s 1 v.lanes
+  pub calm : faults_shown (flat_map round_text rounds) ≡ 0
+
+restart_calm : (lost : Bool) (blocks pages : ℕ) → faults_shown (restart_line lost ++ line.Round blocks pages ∷ []) ≡ 0
+restart_calm true blocks pages = refl
+restart_calm false blocks pages = refl
+
+pub ends_in_rounds : (s : Script) (fuel n k : ℕ) (w : World) (owed : Owed) → 1 ≤ s.head.burst → AreAtRest s 1 w.lanes → AreServed s 1 w.lanes → s.head.patience ≤ k + fuel → EndsInRounds s n k w owed
+ends_in_rounds s zero n k w owed burst rest served few = record { rounds = []; v = w; left = owed; drawn = n; are = (refl, refl, refl); due = inr (omega (arith, few)); rest = rest; served = served; calm = refl }
+ends_in_rounds s (suc fuel) n k w owed burst rest served few =
+    ⊎_elim
+    (λ due. record { rounds = []; v = w; left = owed; drawn = n; are = (refl, refl, refl); due = subst (λ (i : ℕ). IsCutDue s.head owed i) (omega arith) due; rest = rest; served = served; calm = refl })
+    (λ not.
+    let copies = copies_due s owed in
+    let move = can_move s n copies w burst rest served in
+    let wrote = has_written s w move.events move.v (turn_steps move.turn.turn) in
+    let lose = may_lose s (changes_of wrote.written) copies in
+    let then = restarted_if lose.lost s.head (owed_after s.head wrote.written owed) in
+    let r : RoundText = record { events = move.events; restarted = lose.lost; owed = then } in
+    let more = ends_in_rounds s fuel (n + pieces_in move.events + copies) (k + 1) move.v then burst move.rest move.served (omega (arith, few)) in
+    let tail = restart_line lose.lost ++ line.Round (length then.blocks) (length then.pages) ∷ [] in
+    record {
+      rounds = r ∷ more.rounds;
+      v = more.v;
+      left = more.left;
+      drawn = more.drawn;
+      are = (move.v, record { not_due = not; turn = move.turn; written = wrote.written; wrote = wrote.wrote; lost = lose.is; owed_is = refl }, more.are);
+      due = subst (λ (i : ℕ). IsCutDue s.head more.left i) (omega arith) more.due;
+      rest = more.rest;
+      served = more.served;
+      calm = calm_more (move.events ++ tail) (flat_map round_text more.rounds) (calm_more move.events tail move.calm (restart_calm lose.lost (length then.blocks) (length then.pages))) more.calm;
+    })
+    (due_or_not s owed k)

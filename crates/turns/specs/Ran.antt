@@ -1,4 +1,4 @@
-use Rattle.std.specs.Prelude.{◌≡◌, ℕ, ◌≤◌, Bool, true, false, List, length}
+use Rattle.std.specs.Prelude.{◌≡◌, ℕ, Bool, true, false, List, length}
 use Rattle.std.specs.List.{flat_map}
 use Rattle.mig_base.specs.Count.{NeverFall, RiseBy, RisesIf}
 use Rattle.nvm_model.specs.declared.script.Script.{Script}
@@ -21,9 +21,9 @@ pub record Ran {M I : Type 0} (state : M → MediumState I) (moves : I → Step 
   pub sizes : (who : Side) (size : ℕ) → HaveSize state size (media_at who old) → HaveSize state size (media_at who new) × (length (media_at who new) ≡ length (media_at who old))
   -- each fault that a line shows has a call that failed
   pub never_fell : NeverFall (faults_of state old) (faults_of state new)
-  pub causes : RiseBy (faults_shown (lines_in old.task.script stages)) (faults_of state old) (faults_of state new)
-  pub text : IsWritten old.task.script stages old.out.taken failed new.out.taken
+  pub causes : RiseBy (faults_shown (lines_in stages)) (faults_of state old) (faults_of state new)
+  pub text : IsWritten stages old.out.taken failed new.out.taken
   pub counted : RisesIf failed old.out.faults new.out.faults
   -- where the media told their blocks at the start
-  pub ended : failed ≡ false → (s : Script) (blocks : List (List ℕ)) → Tells state s blocks (have_resumed stages) old → HasRun state s blocks old new (lines_in s stages)
+  pub ended : failed ≡ false → (s : Script) (blocks : List (List ℕ)) → Tells state s blocks (have_resumed stages) old → HasRun state s blocks old new (lines_in stages)
   pub stopped : failed ≡ true → (s : Script) (blocks : List (List ℕ)) → Tells state s blocks (have_resumed stages) old → HasStopped state s blocks old new

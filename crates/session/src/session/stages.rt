@@ -1,18 +1,19 @@
 // The stages of a run. Each does its effect, and then its lines go out.
-ghost use Rattle.std.specs.Prelude.{◌≡◌, ◌<◌, [], ◌∷◌, is_err, IfOk, None};
+ghost use Rattle.std.specs.Prelude.{◌≡◌, ◌<◌, [], ◌∷◌, is_err, IfOk, true};
 ghost use Rattle.mig_base.specs.Stream.{Writes};
 ghost use Rattle.nvm_model.specs.declared.line.Line.TheVariants as line;
 ghost use Rattle.session.specs.declared.session.Next.TheVariants.{Turn, End};
-ghost use Rattle.nvm_model.specs.declared.run.RunPhase.TheVariants.{New, Running, Suspended, Over};
+ghost use Rattle.nvm_model.specs.declared.run.RunPhase.TheVariants.{New, Running, Moving, Suspended, Over};
 ghost use Rattle.nvm_model.specs.Run.{opposite};
 ghost use Rattle.nvm_model.specs.Text.{text_of};
 ghost use Rattle.session.specs.declared.ending.Ending.TheVariants.{Done, GaveUp};
-ghost use Rattle.session.specs.Moves.{Tries, both};
+ghost use Rattle.session.specs.Moves.{Tries, both, owed_by, owing_all};
 ghost use Rattle.session.specs.Place.{IsReady, IsWaiting, PlaceState, total_work};
 ghost use Rattle.session.specs.Served.{Leaves};
 ghost use Rattle.session.specs.Sides.{Goes, HasBegun, IsMoveDue, IsMoved, IsNewManager, IsNext, IsOnward, IsRunning};
-ghost use Rattle.session.specs.Sides.{IsStop, MayMove};
-ghost use Rattle.turns.specs.Ahead.{less_one};
+ghost use Rattle.session.specs.Sides.{IsStop, MayMove, MaySuspend, move_set};
+ghost use Rattle.manager.specs.Move.{with_all};
+ghost use Rattle.manager.specs.declared.manager.MovePhase.TheVariants.{Begun};
 ghost use Rattle.session.specs.Sides.{by_side, machine_of, sides, sink};
 
 use super::{Next, Session};
@@ -61,7 +62,7 @@ impl Session {
             &mut self.events,
             at,
         );
-        self.ahead = one_less(self.ahead);
+        self.turns += 1;
         write_lines(&self.events, out)
     }
 
@@ -87,18 +88,33 @@ impl Session {
         }
     }
 
-    /// Suspends the guests.
-    fn suspend<M: Medium, K: Sink>(&mut self, at: &Place<M>, out: &mut K) -> Result<(), Failed>
+    /// Begins the migration: all is owed.
+    fn start<M: Medium, K: Sink>(&mut self, at: &Place<M>, out: &mut K) -> Result<(), Failed>
         requires running { IsRunning self.old at.now }
         requires due { IsMoveDue self.old }
+        requires manager { IsNewManager self.old.script self.old.manager }
         ensures went { (other : PlaceState M) → Goes M.state M.moves
             (sides self.old at.now other (sink (K.bytes out.old) (K.faults out.old))) (is_err result)
             (sides self.new at.now other (sink (K.bytes out.new) (K.faults out.new))) }
-        ensures session { self.new ≡ record self.old { phase = Suspended; ahead = None } }
+        ensures session { self.new
+            ≡ record self.old { phase = Moving; tried = true; manager = owing_all self.old.manager } }
+    {
+        self.phase = RunPhase::Moving;
+        self.tried = true;
+        let _due = self.manager.begin();
+        write_lines(&[Line::Migrate], out)
+    }
+
+    /// Suspends the guests.
+    fn suspend<M: Medium, K: Sink>(&mut self, at: &Place<M>, out: &mut K) -> Result<(), Failed>
+        requires { MaySuspend self.old }
+        ensures went { (other : PlaceState M) → Goes M.state M.moves
+            (sides self.old at.now other (sink (K.bytes out.old) (K.faults out.old))) (is_err result)
+            (sides self.new at.now other (sink (K.bytes out.new) (K.faults out.new))) }
+        ensures session { self.new ≡ record self.old { phase = Suspended } }
     {
         self.phase = RunPhase::Suspended;
-        self.ahead = None;
-        write_lines(&[Line::Migrate, Line::Suspend], out)
+        write_lines(&[Line::Suspend], out)
     }
 
     /// Moves the guests to the other side, or gives up where a call of a medium fails.
@@ -116,6 +132,7 @@ impl Session {
         ensures left { Leaves self.new.side (both at.old to.old) (both at.new to.new) }
         ensures begun { HasBegun self.old self.new }
     {
+        self.start(at, out)?;
         self.suspend(at, out)?;
         match self.cut_over(at, to) {
             Ok(pause) => self.resume(&pause, out),
@@ -130,11 +147,13 @@ impl Session {
         to: &mut Place<M>,
     ) -> Result<Pause, MediumFault>
         requires ready { IsReady self.old.script (machine_of self.old at.old) }
-        requires waits { IsWaiting self.old.script to.old × IsNewManager self.old.script self.old.manager }
-        ensures tried { Tries M.state M.moves self.old.script result (both at.old to.old) (both at.new to.new) }
+        requires waits { IsWaiting self.old.script to.old }
+        requires begun { self.old.manager ≡ with_all true Begun (move_set self.old.script.head) }
+        ensures tried { Tries M.state M.moves self.old.script self.old.turns (owed_by self.old.manager) result
+            (both at.old to.old) (both at.new to.new) }
         ensures session { self.new ≡ record self.old { manager = self.new.manager } }
     {
-        cut_over(&mut self.manager, at, to)
+        cut_over(u64::from(self.turns), &mut self.manager, at, to)
     }
 
     /// Goes on at the other side.
@@ -197,15 +216,5 @@ fn other_side(side: Side) -> Side
     match side {
         Side::Source => Side::Destination,
         Side::Destination => Side::Source,
-    }
-}
-
-/// A turn less, where there is one.
-fn one_less(ahead: Option<u32>) -> Option<u32>
-    ensures { result ≡ less_one ahead }
-{
-    match ahead {
-        Some(turns) => Some(turns.saturating_sub(1)),
-        None => None,
     }
 }

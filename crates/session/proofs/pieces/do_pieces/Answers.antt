@@ -1,4 +1,4 @@
-use Rattle.std.proofs.Common.{◌≡◌, ◌+◌, ◌<◌, ℕ, List, map, refl, sym, ap, ◌∙◌, arith, [], subst}
+use Rattle.std.proofs.Common.{◌≡◌, ◌+◌, ◌<◌, ℕ, List, length, map, refl, sym, ap, ◌∙◌, ◌∷◌, ◌++◌, arith, [], subst}
 use Rattle.nvm_model.specs.Turn.{left_in, next_lane}
 use Rattle.session.proofs.WorkLemmas.{lefts_are, all_done, left_at, left_few, left_less, does_more, works_on}
 use Rattle.session.proofs.pieces.do_pieces.Goals as goal
@@ -6,6 +6,7 @@ use Rattle.mig_base.proofs.ListLemmas.{element_at, sum_less, sum_none}
 use Rattle.session.proofs.EntryLemmas.{room_due, rooms_first, rooms_next}
 use Rattle.hall.specs.Plan.{pieces_of}
 use Rattle.turns.proofs.PartLaws.{leads_more, leads_none}
+use Rattle.turns.proofs.PieceLaws.{next_alone}
 use Rattle.nvm_model.specs.Run.{Here}
 use Rattle.session.specs.declared.order.Order.{Order}
 use Rattle.turns.specs.Parts.{Leads}
@@ -15,7 +16,7 @@ use Rattle.session.proofs.ServedLemmas.{served_more, served_none}
 
 pub pieces-init : goal.pieces-init
 pieces-init g c = record {
-  works = λ h stands. leads_none h c.args.events.now.items stands (record { pieces = []; working = refl; lines_are = refl });
+  works = λ h stands. leads_none h c.args.events.now.items stands (record { pieces = []; working = refl; beside = refl; lines_are = refl });
   has = c.requires.has.0;
   served = served_none (record { namespace = refl; controller = refl });
   left = c.count_left.ensures;
@@ -61,7 +62,9 @@ pieces-preserved g c =
           let lefts : map (left_in s.head.shelf) y.lanes ≡ left = lefts_are d now.has.planned now.left stood.lanes in
           let drawn = c.in-Some.ensures.next y.drawn stood.words in
           let next : at + 1 ≡ next_lane s.head.mix y.drawn (map (left_in s.head.shelf) y.lanes) = drawn.0 ∙ ap (λ (k : ℕ). next_lane k y.drawn left) now.mix ∙ ap (λ (l : List ℕ). next_lane s.head.mix y.drawn l) (sym lefts) in
-          works_on drawn.1 (c.do_piece.ensures.works y (record { lanes = stood.lanes; media = stood.media }) next));
+          let alone : at + 1 ≡ next_lane s.head.mix y.drawn (map (left_in s.head.shelf) y.lanes ++ length y.due ∷ []) =
+          next ∙ sym (next_alone s.head.mix y.drawn (map (left_in s.head.shelf) y.lanes)) ∙ ap (λ (due : List ℕ). next_lane s.head.mix y.drawn (map (left_in s.head.shelf) y.lanes ++ length due ∷ [])) (sym stood.due) in
+          works_on drawn.1 (c.do_piece.ensures.works y (record { lanes = stood.lanes; media = stood.media; due = stood.due }) alone));
       has = c.do_piece.ensures.has;
       served = served_more now.served c.do_piece.ensures.served;
       left = left_less at done.result low there.1 done.has now.left;

@@ -1,11 +1,26 @@
-use Rattle.std.proofs.Common.{◌∙◌, refl, subst, ap}
+use Rattle.std.proofs.Common.{◌∙◌, Bool, refl, sym, subst, ap, arith}
 use Rattle.std.proofs.lemmas.Result.{err_from_is_err_and}
 use Rattle.session.specs.declared.ending.Ending.{Ending}
 use Rattle.session.specs.Moves.{both}
-use Rattle.session.specs.Sides.{IsMoved, SessionState}
-use Rattle.session.proofs.StageLemmas.{goes_more, on_destination, on_source}
+use Rattle.session.specs.Place.{IsReady}
+use Rattle.session.specs.Sides.{HasEnded, IsMoved, IsStop, SessionState, machine_of}
+use Rattle.session.proofs.RestLemmas.{few_turns}
+use Rattle.session.proofs.StageLemmas.{ended_unmoved, goes_more, if_ok, on_destination, on_source}
 use Rattle.session.proofs.ServedLemmas.{left_here, left_running, left_there, left_tried, served_none}
 use Rattle.session.proofs.whole.run.Goals as goal
+
+pub turns-requires : goal.turns-requires
+turns-requires g c =
+    let is = c.in_ok-begin.ensures.session in
+    let ready = subst (λ (s : SessionState). IsReady s.script (machine_of s c.args.from.now)) (sym is) c.requires.ready in
+    let turns = ap (λ (s : SessionState). s.turns) is ∙ c.requires.new.turns in
+    record { phase = ap (λ (s : SessionState). s.phase) is; ready = ready; few = omega (arith, turns, few_turns ready) }
+
+pub returns-then-not-branch-clause-ended : goal.returns-then-not-branch-clause-ended
+returns-then-not-branch-clause-ended g c =
+    let untried = c.turns.ensures.onward.tried ∙ ap (λ (s : SessionState). s.tried) c.in_ok-begin.ensures.session ∙ c.requires.new.tried in
+    let stop = subst (λ (due : Bool). IsStop due c.turns.new.self) c.if-not-branch.true c.in_ok-turns.ensures.stops in
+    if_ok c.end.result (λ ending done. subst (λ (e : Ending). HasEnded e c.end.new.self) (sym done) (ended_unmoved c.turns.new.self c.end.new.self c.end.ensures.session untried stop.0 stop.1)) c.end.ensures.ended
 
 pub returns-in_err-turns-clause-went : goal.returns-in_err-turns-clause-went
 returns-in_err-turns-clause-went g c =

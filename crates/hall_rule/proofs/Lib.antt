@@ -1,0 +1,5 @@
+pub mod Lists
+pub mod Packs
+pub mod Turns
+pub mod Notes
+pub mod Keeps
