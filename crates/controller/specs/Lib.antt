@@ -1,4 +1,5 @@
 pub mod Changes
 pub mod Pair
+pub mod Slot
 pub mod Parts
 pub mod Told

@@ -134,6 +134,7 @@ impl Controller {
     }
 
     fn create_queue(&mut self, cells: u32) -> Result<u32, Refusal>
+        requires { 2 ≤ cells }
         ensures { Creates cells self.old result self.new }
     {
         if cells != self.queue.size() || !self.queue.create() {

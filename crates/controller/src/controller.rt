@@ -1,4 +1,4 @@
-ghost use Rattle.std.specs.Prelude.{◌≡◌, ◌+◌, ◌*◌, ◌/◌, ◌≤◌, ◌<◌, IfOk, IfSome, All, length, map, sum};
+ghost use Rattle.std.specs.Prelude.{◌≡◌, ◌+◌, ◌*◌, ◌/◌, ◌≤◌, ◌<◌, IfNone, IfOk, IfSome, All, is_none, length, map, not, sum};
 ghost use Rattle.nvm_values.specs.declared.op.Op.TheVariants.{Flush, Read};
 ghost use Rattle.nvm_model.specs.ScriptText.{IsSet};
 ghost use Rattle.guest_ram.specs.Window.{data_pages};
@@ -10,9 +10,11 @@ ghost use Rattle.ctl_state.specs.Controller.{TakesChange, pair_of};
 ghost use Rattle.data_queue.specs.Change.{IsChange};
 ghost use Rattle.controller.specs.Pair.{AtLane, FetchesLane, FetchesTurn, IsMade, PostsLane, PostsTurn, RingsCq, RingsReaped, RingsSq};
 ghost use Rattle.controller.specs.Changes.{Notes, changed_count};
+ghost use Rattle.controller.specs.Slot.{lent_queue};
 
 use crate::PairSet;
 use crate::pair::Pair;
+use crate::slot::QueueSlot;
 use ctl_state::{Parts, Phase};
 use data_queue::{Change, DataQueue};
 use guest_ram::Window;
@@ -35,7 +37,7 @@ pub struct Controller {
     burst: u32,
     pub(crate) phase: Phase,
     // Where changes of user data are told, and whether they are.
-    pub(crate) queue: DataQueue,
+    pub(crate) queue: QueueSlot,
     pub(crate) tracker: Tracker,
     // What was fed of a state.
     pub(crate) parts: Parts,
@@ -196,7 +198,7 @@ impl Controller {
                 first: p.span.first,
                 count,
             };
-            self.tracker.note(Change { span }, &mut self.queue);
+            self.queue.note(&self.tracker, Change { span });
         }
     }
 
@@ -209,6 +211,24 @@ impl Controller {
             return None;
         }
         self.queue.take()
+    }
+
+    /// Lends its change queue, so that threads can share it: `None` exactly where no queue is live or it is lent. Until it
+    /// comes back no change is noted, and an admin command finds no queue.
+    pub fn lend_queue(&mut self) -> Option<DataQueue>
+        ensures none { is_none result ≡ not self.old.queue.live }
+        ensures lent { IfSome result (λ q. (q ≡ self.old.queue) × (self.new ≡ record self.old { queue = lent_queue })) }
+        ensures kept { IfNone result (self.new ≡ self.old) }
+    {
+        self.queue.lend()
+    }
+
+    /// Takes the queue that it lent back.
+    pub fn return_queue(&mut self, q: DataQueue)
+        requires { self.old.queue ≡ lent_queue }
+        ensures { self.new ≡ record self.old { queue = q } }
+    {
+        self.queue.give_back(q);
     }
 
     /// Posts the completions of a lane's fetched commands. `results` has one result for each piece of the lane's plan, in
@@ -255,7 +275,7 @@ fn make_in(
         pairs: all,
         burst,
         phase,
-        queue: DataQueue::make(alloc, cells)?,
+        queue: QueueSlot::make(alloc, cells)?,
         tracker: Tracker::new(),
         parts: Parts::new(pairs.len() as u8),
     })

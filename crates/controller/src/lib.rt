@@ -8,6 +8,7 @@ mod admin;
 mod check;
 mod controller;
 mod pair;
+mod slot;
 
 pub use controller::Controller;
 pub use ctl_state::Phase;
