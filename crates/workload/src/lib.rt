@@ -10,6 +10,8 @@ mod acts;
 mod command;
 mod head;
 mod law;
+#[cfg(test)]
+mod tests;
 
 use acts::take_acts;
 use head::head_of;
