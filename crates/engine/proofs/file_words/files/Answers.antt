@@ -1,4 +1,4 @@
-use Rattle.std.proofs.Common.{length, map, string_bytes}
+use Rattle.std.proofs.Common.{string_bytes}
 use Rattle.engine.proofs.FileLemmas.{files_last, if_some}
 use Rattle.engine.proofs.file_words.files.Goals as goal
 
