@@ -9,6 +9,7 @@ use line_buf::write_last_line;
 use mig_base::{Failed, Sink};
 
 /// How the program ends.
+#[derive(Clone, Copy)]
 pub(crate) enum Ended {
     /// The top call answered.
     Answered(Status),
@@ -23,7 +24,7 @@ impl Ended {
     pub(crate) fn code(&self) -> u8
         ensures { result ≡ end_code self.now }
     {
-        match self {
+        match *self {
             Ended::Answered(status) => status.code(),
             Ended::NotOpened(fault) => fault.code(),
             Ended::NotSynced(_) => 9,
@@ -39,7 +40,7 @@ impl Ended {
         ensures { Writes (end_text self.now) (E.bytes errors.old) (E.bytes errors.new)
             (E.faults errors.old) (E.faults errors.new) result }
     {
-        match self {
+        match *self {
             Ended::Answered(status) => status.write(errors),
             Ended::NotOpened(fault) => fault.write(errors),
             Ended::NotSynced(_) => write_last_line(b"host not synced\n", errors),
