@@ -1,13 +1,33 @@
-use Rattle.std.specs.Prelude.{◌≡◌, ◌⊎◌, ℕ, ◌*◌, ◌≤◌, List, [], ◌∷◌, codes, decimal}
+use Rattle.std.specs.Prelude.{◌≡◌, ◌≢◌, ◌⊎◌, ℕ, ◌*◌, ◌≤◌, List, [], ◌∷◌, codes, decimal}
 use Rattle.engine.specs.declared.words.Form.{Form}
 use Rattle.engine.specs.declared.words.Form.TheVariants.{RunSerial, Show, Check}
 
--- The words `run serial BLOCKS SHELF`, with a namespace of so many blocks in at most 64 shelves of so many.
+-- two different words that aren't empty
+pub record IsPair (from to : List ℕ) : Type 0 where
+  pub from_some : from ≢ []
+  pub to_some : to ≢ []
+  pub differ : from ≢ to
+
+-- The words that may stand behind the sizes: none, or two that name the files of both hosts.
+abbrev pub AreFiles : List (List ℕ) → Type 0
+AreFiles [] = Unit {0}
+AreFiles (from ∷ []) = ⊥
+AreFiles (from ∷ to ∷ []) = IsPair from to
+AreFiles (from ∷ to ∷ more ∷ rest) = ⊥
+
+-- The words `run serial BLOCKS SHELF` or `run serial BLOCKS SHELF FROM TO`, with a namespace of so many blocks in at most
+-- 64 shelves of so many.
 pub record IsRunSerial (words : List (List ℕ)) (blocks shelf : ℕ) : Type 0 where
-  pub words_are : words ≡ codes "run" ∷ codes "serial" ∷ decimal blocks ∷ decimal shelf ∷ []
+  pub files : List (List ℕ)
+  pub files_are : AreFiles files
+  pub words_are : words ≡ codes "run" ∷ codes "serial" ∷ decimal blocks ∷ decimal shelf ∷ files
   pub blocks_fit : (1 ≤ blocks) × (blocks ≤ 131072)
   pub shelf_fits : (1 ≤ shelf) × (shelf ≤ 65536)
   pub shelves : (n : ℕ) × (n ≤ 64) × (blocks ≡ n * shelf)
+
+-- The words run a script over so many blocks in shelves of so many, and the hosts are kept in these files.
+abbrev pub IsRunOver : List (List ℕ) → ℕ → ℕ → List ℕ → List ℕ → Type 0
+IsRunOver words blocks shelf from to = (is : IsRunSerial words blocks shelf) × (is.files ≡ from ∷ to ∷ [])
 
 -- two words spell the sizes of such a namespace
 pub record AreSizes (blocks_word shelf_word : List ℕ) (blocks shelf : ℕ) : Type 0 where

@@ -5,6 +5,7 @@
 #![tactic(auto)]
 
 mod checking;
+mod file_words;
 mod free_gate;
 mod hosts;
 mod reading;
@@ -14,6 +15,7 @@ mod status;
 mod top;
 mod words;
 
+pub use file_words::files;
 pub use free_gate::FreeGate;
 pub use judge::Fault;
 pub use script::Why;

@@ -3,6 +3,7 @@ ghost use Rattle.std.specs.Prelude.{◌≡◌, ◌≢◌, ◌*◌, ◌^◌, ◌<
 ghost use Rattle.std.specs.Prelude.{IfSome, IfNone, decimal, string_bytes};
 ghost use Rattle.engine.specs.Words.{IsCheck, IsRunSerial, IsShow, IsNoForm, HasForm, AreSizes};
 
+use crate::file_words::are_files;
 use itoa::Buffer;
 
 /// What the words ask for.
@@ -49,13 +50,16 @@ pub fn geometry(words: &[String]) -> Option<(u32, u32)>
     ensures form { IfSome result (λ g. IsRunSerial (map string_bytes words.now) g.0 g.1) }
     ensures none { IfNone result ((blocks shelf : ℕ) → IsRunSerial (map string_bytes words.now) blocks shelf → ⊥) }
 {
-    if words.len() != 4 {
+    if words.len() < 4 {
         return None;
     }
     if !is_word(word(words, 0), "run") {
         return None;
     }
     if !is_word(word(words, 1), "serial") {
+        return None;
+    }
+    if !are_files(&words[4..]) {
         return None;
     }
     sizes(word(words, 2), word(words, 3))

@@ -1,2 +1,3 @@
+pub mod EndText
 pub mod Ending
 pub mod Hosts

@@ -1,12 +1,15 @@
 // The hosts that the program runs over.
-ghost use Rattle.std.specs.Prelude.{◌≡◌, ℕ, ◌*◌, ◌≤◌, All, IfOk, length, map, string_bytes};
-ghost use Rattle.nvmigrate.specs.Hosts.{AreFresh, IsEmptyHost, IsZeroed, IsZeroedHost};
+ghost use Rattle.std.specs.Prelude.{◌≡◌, ℕ, ◌*◌, ◌≤◌, All, IfErr, IfOk, length, map, string_bytes};
+ghost use Rattle.nvmigrate.specs.Hosts.{AreFresh, IsEmptyHost, IsFileHost, IsZeroed, IsZeroedHost};
+ghost use Rattle.file_medium.specs.FaultText.{IsFaultOf};
 
 use engine::geometry;
+use file_medium::{FileMedium, OpenFault, open_files};
 use guest_ram::{Host, Ram};
 use mig_base::OutOfMemory;
 use mig_medium::MemMedium;
 use std::alloc::Global;
+use std::rt::Files;
 
 /// The two hosts: of zeroed blocks in memory, whose calls never fail, for words that run a script, and empty otherwise.
 pub(crate) fn hosts(
@@ -22,6 +25,27 @@ pub(crate) fn hosts(
             Ok((from, to))
         }
         None => Ok((empty_host(alloc), empty_host(alloc))),
+    }
+}
+
+/// The host over the file at a path, which is made where that is asked for and it doesn't exist.
+pub(crate) fn file_host<R: Files>(
+    rt: &R,
+    alloc: Global,
+    path: &str,
+    sizes: (u32, u32),
+    make: bool,
+) -> Result<Host<FileMedium<R::File>>, OpenFault>
+    requires { (1 ≤ sizes.1) × ((n : ℕ) × (sizes.0 ≡ n * sizes.1)) }
+    ensures host { IfOk result (IsFileHost sizes.0 sizes.1) }
+    ensures fault { IfErr result (IsFaultOf sizes.0) }
+{
+    match open_files(rt, alloc, path, sizes.0, sizes.1, make) {
+        Ok(shelves) => Ok(Host {
+            shelves,
+            ram: Ram::empty(),
+        }),
+        Err(fault) => Err(fault),
     }
 }
 

@@ -12,6 +12,11 @@ nvmigrate run serial BLOCKS SHELF
     SHELF from 1 to 65536, SHELF divides BLOCKS, and there are at most 64
     shelves.
     example: nvmigrate run serial 32 16 < tests/cases/example_move/stdin
+nvmigrate run serial BLOCKS SHELF FROM TO
+    the same over two hosts in files of BLOCKS * 512 bytes, the source in
+    FROM and the destination in TO, which is made of zero bytes where it
+    doesn't exist. Both are synced before the program ends.
+    example: nvmigrate run serial 32 16 a.img b.img < script
 nvmigrate show
     reads a script from standard input, and writes what it asks for and the
     Identify data that its guests see. Nothing is run.
@@ -37,6 +42,7 @@ exit status
     6  a write of standard output failed
     7  the migration was given up where a medium failed, and the source went on
     8  the transcript that was judged isn't right
+    9  a host's file wasn't opened or has another length, or wasn't synced
 ";
 
 const VERSION: &str = "nvmigrate 0.1.0\n";
